@@ -1,0 +1,13 @@
+use mathlib.Core.Path.{ap, _∙_}
+use Rattle.cards.specs.Cards.{size-told, fault-at}
+use Rattle.cards.specs.Forms.{form}
+use Rattle.cards.proofs.Cards.{first-told}
+use Rattle.cards.proofs.card.head.Needs as need
+
+pub returns-in-Ok : need.returns-in-Ok
+returns-in-Ok c =
+    ap (fault-at 1 0) (c .in-Ok .ensures tt ∙ ap (λ l. size-told (form l)) (c .split .ensures .front) ∙ first-told (c .args .text .now))
+
+pub returns-in-Err : need.returns-in-Err
+returns-in-Err c =
+    ap (fault-at 1 0) (c .in-Err .ensures tt ∙ ap (λ l. size-told (form l)) (c .split .ensures .front) ∙ first-told (c .args .text .now))

@@ -1,0 +1,4 @@
+pub mod Reading
+pub mod Snapshots
+pub mod Tours
+pub mod Walking

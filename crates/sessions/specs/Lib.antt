@@ -1,0 +1,5 @@
+pub mod Crews
+pub mod Limits
+pub mod Refusals
+pub mod Rows
+pub mod Walks

@@ -1,0 +1,11 @@
+pub mod Biclique
+pub mod Closure
+pub mod Counting
+pub mod Crews
+pub mod CrewsAhead
+pub mod Filing
+pub mod Greedy
+pub mod GreedyWalk
+pub mod Listed
+pub mod Sharing
+pub mod Sheets

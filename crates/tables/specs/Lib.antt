@@ -1,0 +1,10 @@
+pub mod Biclique
+pub mod Crews
+pub mod Filed
+pub mod Grid
+pub mod Marks
+pub mod Refusals
+pub mod Rosters
+pub mod Sheet
+pub mod Sizes
+pub mod Walk

@@ -1,0 +1,7 @@
+-- What each kind of roster means as a grid. Assumes nothing.
+use Rattle.tables.specs.Grid.{Grid}
+use Rattle.tables.specs.Filed.{held}
+use Rattle.tables.specs.declared.bit_roster.BitRoster.{BitRoster}
+
+abbrev pub bit-grid : BitRoster → Grid
+bit-grid r = record { members = r .size .members; slots = r .size .slots; marked = held (r .rows) }

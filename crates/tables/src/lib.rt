@@ -1,0 +1,6 @@
+// Tables of members and slots: what a table means, the rosters that can be changed, and what members or slots have in common.
+pub mod bit_roster;
+pub mod common;
+pub mod refusals;
+pub mod size;
+pub mod table;
