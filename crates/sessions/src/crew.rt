@@ -1,5 +1,5 @@
 // A crew: some members and the slots that they share, neither of them empty.
-ghost use Prim.Native.Nat.{_<_};
+ghost use Prim.Native.Nat.{_<_, _^_};
 
 mod making;
 
@@ -10,4 +10,6 @@ pub struct Crew {
     slots: u64,
     ghost some_member: { 0 < members },
     ghost some_slot: { 0 < slots },
+    ghost members_fit: { members < 2 ^ 64 },
+    ghost slots_fit: { slots < 2 ^ 64 },
 }

@@ -1,5 +1,5 @@
 -- The laws of the order of words, each over a number of bits first, and what comes next after a word. Assumes nothing.
-use mathlib.Core.Path.{_≡_, refl, sym, ap, subst, _∙_}
+use mathlib.Core.Path.{_≡_, refl, sym, ap, _∙_}
 use mathlib.Core.Logic.{⊎-elim}
 use mathlib.Core.Bool.{Bool, true, false, cond, not}
 use Prim.Native.Nat.{ℕ, zero, suc, _+_, _-_, _*_, _/_, _%_, _^_, _≤_, _<_, suc-le-suc}
@@ -9,7 +9,7 @@ use native.Mathlib.Omega.{arith}
 use lib.Dec.{eqb, ltb, leb·suc-suc}
 use lib.Bits.{bitOr, bitXor, xor-mod, xor-shr, or-shifted, or-shifted-r}
 use lib.Count.{trailingZeros, under, leadingZeros, leading-top}
-use Rattle.std.specs.Orderings.{Decides}
+use Rattle.std.specs.Orderings.{Decides, reversed}
 use Rattle.std.proofs.shelf.Bits.{one-shl}
 use Rattle.std.proofs.shelf.Tests.{cases-lt, lt-ltb, ne-eqb, cond-false}
 use Rattle.std.proofs.shelf.Ways.{tells, same-from-decides}
@@ -27,9 +27,6 @@ step x y e = cond x (cond y e true) (cond y false e)
 pub earlier-step : (k a b : ℕ) → earlier (suc k) a b ≡ step (bit a 0) (bit b 0) (earlier k (a / 2) (b / 2))
 unfolding earlier
 earlier-step k a b = refl
-
-half-below : (k a : ℕ) → a < 2 ^ suc k → a / 2 < 2 ^ k
-half-below k a h = omega arith
 
 step-same : (x e : Bool) → e ≡ false → step x x e ≡ false
 step-same true e h = h
@@ -94,7 +91,7 @@ earlier-same zero a b ha hb p q = omega arith
 earlier-same (suc k) a b ha hb p q =
     let n = step-neither (bit a 0) (bit b 0) _ _ p q in
     let low : a % 2 ≡ b % 2 = same-low a b (n .0) in
-    let high : a / 2 ≡ b / 2 = earlier-same k (a / 2) (b / 2) (half-below k a ha) (half-below k b hb) (n .1) (n .2) in
+    let high : a / 2 ≡ b / 2 = earlier-same k (a / 2) (b / 2) (omega arith) (omega arith) (n .1) (n .2) in
     omega arith
 
 pub earlier-zero : (k a : ℕ) → earlier k 0 a ≡ false
@@ -364,3 +361,32 @@ word-order-less a b h = grind arith
 pub word-order-not-less : (a b : ℕ) → (word-order a b ≡ Less → ⊥) → before a b ≡ false
 unfolding word-order
 word-order-not-less a b h = grind arith
+
+-- ---- the order of words as an answer
+
+pub word-order-itself : (a : ℕ) → word-order a a ≡ Equal
+unfolding word-order
+word-order-itself a = rw (before-irreflexive a)
+
+pub word-order-same : (a b : ℕ) → a < 2 ^ 64 → b < 2 ^ 64 → word-order a b ≡ Equal → a ≡ b
+unfolding word-order
+word-order-same a b ha hb e = by-tests (before a b) (before b a) refl refl e
+  where
+    by-tests : (x y : Bool) → before a b ≡ x → before b a ≡ y → cond x Less (cond y Greater Equal) ≡ Equal → a ≡ b
+    by-tests true y p q h = absurd (grind arith)
+    by-tests false true p q h = absurd (grind arith)
+    by-tests false false p q h = before-same a b ha hb p q
+
+pub word-order-turned : (a b : ℕ) → word-order b a ≡ reversed (word-order a b)
+unfolding word-order
+word-order-turned a b = by-tests (before a b) (before b a) (before-asym a b)
+  where
+    by-tests : (x y : Bool) → (x ≡ true → y ≡ false) → cond y Less (cond x Greater Equal) ≡ reversed (cond x Less (cond y Greater Equal))
+    by-tests true true h = absurd (grind arith)
+    by-tests true false h = refl
+    by-tests false true h = refl
+    by-tests false false h = refl
+
+pub word-order-chain : (a b c : ℕ) → word-order a b ≡ Less → word-order b c ≡ Less → word-order a c ≡ Less
+unfolding word-order
+word-order-chain a b c p q = rw (before-trans a b c (word-order-less a b p) (word-order-less b c q))

@@ -1,0 +1,4 @@
+pub mod Lines
+pub mod Metres
+pub mod Orders
+pub mod Refusals

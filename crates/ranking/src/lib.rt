@@ -1,0 +1,4 @@
+// The kinds of lines that are made of crews: in crew order, and by seats.
+pub mod crew_line;
+pub mod crew_made;
+pub mod seat_line;
