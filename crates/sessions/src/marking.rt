@@ -2,6 +2,7 @@
 ghost use mathlib.Core.Path.{_≡_};
 ghost use Prim.Native.Nat.{_-_, _^_};
 ghost use Rattle.tables.specs.Sheet.{sheet, marking, after-mark, clearing, after-clear};
+ghost use Rattle.sessions.specs.Finder.{finding, beginning};
 use crate::limit::Limit;
 use crate::listing::Listing;
 use tables::refusals::RosterRefusal;
@@ -38,11 +39,12 @@ impl<R: Roster> Marking<R> {
         self.roster.clear(member, slot)
     }
 
-    /// The listing session of the same roster, with the walk at its start.
+    /// The listing session of the same roster, with the walk and the finder at their start.
     pub fn close(self, limit: Limit) -> Listing<R>
         ensures table { λ r. ⌜ r .table ≡ self .roster ⌝ }
         ensures start { λ r. ⌜ r .walk .position ≡ 2 ^ 64 - 1 ⌝ }
-        ensures limit { λ r. ⌜ r .limit ≡ limit ⌝ }
+        ensures beginning { λ r. ⌜ finding (r .finder) ≡ beginning ⌝ }
+        ensures limit { λ r. ⌜ r .finder .limit ≡ limit ⌝ }
     {
         let Marking { roster } = self;
         Listing::browse(roster, limit)

@@ -18,7 +18,7 @@ pub fn list_into<T: Table>(session: &mut Listing<T>, places: &mut [Option<Crew>]
     ensures every_crew_is_reached { λ _. ⌜ Reaches-each-crew (T·Table .grid (now (session .entry) .table)) (map (mapped sides) (now (places .exit))) ⌝ }
     ensures crews_are_listed { λ _. ⌜ Lists-the-crews (T·Table .grid (now (session .entry) .table)) (crews (T·Table .grid (now (session .entry) .table))) ⌝ }
     ensures table { λ _. ⌜ now (session .exit) .table ≡ now (session .entry) .table ⌝ }
-    ensures limit { λ _. ⌜ now (session .exit) .limit ≡ now (session .entry) .limit ⌝ }
+    ensures finder { λ _. ⌜ now (session .exit) .finder ≡ now (session .entry) .finder ⌝ }
 {
     session.rewind();
     for place in places.iter_mut() {

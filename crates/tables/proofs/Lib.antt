@@ -6,6 +6,7 @@ pub mod CrewsAhead
 pub mod Filing
 pub mod Greedy
 pub mod GreedyWalk
+pub mod Intersections
 pub mod Listed
 pub mod Sharing
 pub mod Sheets

@@ -35,7 +35,7 @@ loop-place-again g c =
     let within : k < length (c .loop-place .places) = omega arith in
     let now = ahead-now g (need.at·loop-place-again g c .After-next) in (
       c .next .ensures .table ∙ inv .0,
-      c .next .ensures .limit ∙ inv .1,
+      c .next .ensures .finder ∙ inv .1,
       ap (λ t. ahead (g .T·Table .grid t) (c .next .last .self .walk .position)) (sym (inv .0)) ∙ c .next .ensures .ahead ∙ ap rest now ∙ sym (drop-more k (crews grid)),
       ap (λ n. map (mapped sides) (take n (set (c .loop-place .places) k (c .next .result)))) (add-one k)
           ∙ ap (map (mapped sides)) (take-suc-set (c .loop-place .places) k (c .next .result) within)
@@ -61,5 +61,5 @@ returns g c =
       every-crew-is-reached = reaches-each _ n _ answers;
       crews-are-listed = crews-listed _ proper;
       table = inv .0 ∙ same;
-      limit = inv .1 ∙ c .rewind .ensures .limit;
+      finder = inv .1 ∙ c .rewind .ensures .finder;
     }

@@ -11,6 +11,6 @@ abbrev pub Inv-loop-place : given.InvT-loop-place
 Inv-loop-place g l =
     let grid = g .T·Table .grid (l .entry .session .table) in
     (l .session .table ≡ l .entry .session .table)
-    × (l .session .limit ≡ l .entry .session .limit)
+    × (l .session .finder ≡ l .entry .session .finder)
     × (ahead grid (l .session .walk .position) ≡ drop (l .place-index) (crews grid))
     × (map (mapped sides) (take (l .place-index) (l .places)) ≡ in-turn (l .place-index) (crews grid))
