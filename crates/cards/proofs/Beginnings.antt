@@ -1,20 +1,19 @@
 -- How a line is taken apart: what it begins with decides. Assumes nothing.
-use Prim.Native.Nat.{ℕ, zero, suc, _+_, _-_, _<_, _≤_}
-use mathlib.Core.Path.{_≡_, refl, sym, ap, subst, _∙_}
+use Prim.Native.Nat.{ℕ, suc, _+_, _<_, _≤_}
+use mathlib.Core.Path.{_≡_, refl, sym, ap, _∙_}
 use mathlib.Core.Logic.{⊎-elim}
-use mathlib.Core.Bool.{Bool, true, false, cond}
 use mathlib.Core.List.{List, [], _∷_}
 use native.Mathlib.Nat.{add-zero, add-suc}
 use native.Mathlib.Numerals.{add-one}
 use native.Mathlib.Omega.{arith}
 use lib.Dec.{eqb}
-use lib.ListN.{length, getD, take, drop}
+use lib.ListN.{length, getD, drop}
 use Rattle.std.specs.declared.option.Option.{Option}
 use Rattle.std.specs.declared.option.Option.the-variants.{Some, None}
 use Rattle.std.proofs.shelf.Lists.{drop-more, drop-all}
 use Rattle.std.proofs.shelf.Tests.{cases-eq, cases-lt, eq-eqb, ne-eqb, cond-true, cond-false}
 use Rattle.cards.specs.Splits.{up-to, behind}
-use Rattle.cards.specs.Forms.{Said, size-line, free-line, off-line, no-form, after, size-word, free-word, off-word, with-fields, taken-apart}
+use Rattle.cards.specs.Forms.{size-line, free-line, off-line, no-form, after, size-word, free-word, off-word, with-fields, taken-apart}
 
 -- the bytes of the word stand in bs from place i on
 abbrev pub Stands : List ℕ → List ℕ → ℕ → Type 0

@@ -1,5 +1,5 @@
 -- What a card's lines do, one line at a time. Assumes nothing.
-use Prim.Native.Nat.{ℕ, zero, suc, _+_, _-_, _<_, _≤_}
+use Prim.Native.Nat.{ℕ, suc, _+_, _-_, _<_, _≤_}
 use mathlib.Core.Path.{_≡_, refl, sym, ap, _∙_}
 use mathlib.Core.Bool.{cond}
 use mathlib.Core.List.{List, [], _∷_}
@@ -9,11 +9,11 @@ use lib.ListN.{length}
 use Rattle.std.specs.Results.{isOk}
 use Rattle.std.specs.declared.result.Result.{Result}
 use Rattle.std.specs.declared.result.Result.the-variants.{Ok, Err}
-use Rattle.tables.specs.Sheet.{Sheet, marking, after-mark, clearing, after-clear}
+use Rattle.tables.specs.Sheet.{Sheet, marking, clearing}
 use Rattle.tables.specs.declared.refusals.RosterRefusal.{RosterRefusal}
-use Rattle.cards.specs.Cards.{size-told, first-size, putting, after-put, roster-cause, go-on, applied, Applied, fault-at}
+use Rattle.cards.specs.Cards.{size-told, first-size, putting, after-put, roster-cause, go-on, applied, Applied}
 use Rattle.cards.specs.Forms.{Said, form, size-line, free-line, off-line, blank-line, no-form, taken-apart}
-use Rattle.cards.specs.Lines.{Line, line, lines, lines-from}
+use Rattle.cards.specs.Lines.{line, lines, lines-from}
 use Rattle.cards.specs.Splits.{up-to, behind}
 use Rattle.cards.specs.declared.refusals.Cause.{Cause}
 use Rattle.cards.proofs.Lines.{lines-left, first-line, lines-whole}

@@ -1,8 +1,10 @@
 -- The forms of a line: `size`, `free` or `off` with two numbers, blank, or none. Assumes nothing.
-use Prim.Native.Nat.{ℕ, _+_, _-_, _*_}
+use Prim.Native.Nat.{ℕ, _+_, _-_, _*_, _<_}
+use mathlib.Core.Path.{_≡_}
 use mathlib.Core.Bool.{Bool, cond, _&&_}
-use mathlib.Core.List.{List, [], _∷_}
+use mathlib.Core.List.{List, [], _∷_, _++_}
 use lib.Dec.{eqb, leb}
+use Rattle.std.specs.Written.{decimal}
 use Rattle.std.specs.declared.option.Option.{Option}
 use Rattle.std.specs.declared.option.Option.the-variants.{Some, None}
 use Rattle.std.specs.declared.result.Result.{Result}
@@ -35,12 +37,15 @@ after [] bs = Some bs
 after (w ∷ ws) [] = None
 after (w ∷ ws) (b ∷ bs) = cond (eqb b w) (after ws bs) None
 
+-- `size` and a space
 abbrev pub size-word : List ℕ
 size-word = 115 ∷ 105 ∷ 122 ∷ 101 ∷ 32 ∷ []
 
+-- `free` and a space
 abbrev pub free-word : List ℕ
 free-word = 102 ∷ 114 ∷ 101 ∷ 101 ∷ 32 ∷ []
 
+-- `off` and a space
 abbrev pub off-word : List ℕ
 off-word = 111 ∷ 102 ∷ 102 ∷ 32 ∷ []
 
@@ -57,6 +62,7 @@ taken-apart (b ∷ bs) =
     with-fields size-line (after size-word (b ∷ bs))
     (with-fields free-line (after free-word (b ∷ bs)) (with-fields off-line (after off-word (b ∷ bs)) no-form))
 
+-- whether a byte is a decimal digit
 abbrev pub digit : ℕ → Bool
 digit b = leb 48 b && leb b 57
 
@@ -90,3 +96,23 @@ numbered no-form = no-form
 -- the form of a line
 abbrev pub form : List ℕ → Said ℕ
 form line = numbered (taken-apart line)
+
+-- a word, two numbers in decimal digits and a space between them
+abbrev pub line-of : List ℕ → ℕ → ℕ → List ℕ
+line-of word n m = word ++ (decimal n ++ 32 ∷ decimal m)
+
+-- what a form says of its line
+abbrev pub Tells : Said ℕ → List ℕ → Type 0
+Tells (size-line n m) line = (n < 100) × (m < 100) × (line ≡ line-of size-word n m)
+Tells (free-line n m) line = (n < 100) × (m < 100) × (line ≡ line-of free-word n m)
+Tells (off-line n m) line = (n < 100) × (m < 100) × (line ≡ line-of off-word n m)
+Tells blank-line line = line ≡ []
+Tells no-form line = Unit {0}
+
+-- nothing but the listed forms is read, and each of them is
+pub record Form-laws : Type 0 where
+  pub only : (line : List ℕ) → Tells (form line) line
+  pub blank : form [] ≡ blank-line
+  pub size : (n m : ℕ) → n < 100 → m < 100 → form (line-of size-word n m) ≡ size-line n m
+  pub free : (n m : ℕ) → n < 100 → m < 100 → form (line-of free-word n m) ≡ free-line n m
+  pub off : (n m : ℕ) → n < 100 → m < 100 → form (line-of off-word n m) ≡ off-line n m

@@ -4,4 +4,5 @@ pub mod Forms
 pub mod Lines
 pub mod Prints
 pub mod Refusals
+pub mod Shown
 pub mod Splits

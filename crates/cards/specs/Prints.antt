@@ -1,13 +1,17 @@
 -- The lines that are printed, and what printing one does to a buffer. Assumes nothing.
-use Prim.Native.Nat.{ℕ, zero, suc}
-use mathlib.Core.Bool.{cond}
+use Prim.Native.Nat.{ℕ, zero, suc, _<_, _^_}
+use mathlib.Core.Path.{_≡_}
+use mathlib.Core.Bool.{true, cond}
 use mathlib.Core.List.{List, [], _∷_, _++_}
-use lib.Dec.{leb}
+use lib.Dec.{leb, ltb}
 use lib.ListN.{length, drop}
+use Rattle.std.specs.Reads.{Numeral, value}
 use Rattle.std.specs.Written.{decimal}
+use Rattle.std.specs.shelf.Lists.{Has}
 use Rattle.std.specs.declared.result.Result.{Result}
 use Rattle.std.specs.declared.result.Result.the-variants.{Ok, Err}
 use Rattle.words.specs.Bits.{bit}
+use Rattle.tables.specs.Walk.{Increasing}
 use Rattle.cards.specs.Refusals.{cause-number}
 use Rattle.cards.specs.declared.ending.Tail.{Tail}
 use Rattle.cards.specs.declared.ending.Tail.the-variants.{End, More}
@@ -53,3 +57,10 @@ printing line buffer = cond (leb (length line) (length buffer)) (Ok (length line
 -- the buffer after it: the line and what stood behind it, or all as it was
 abbrev pub after-print : List ℕ → List ℕ → List ℕ
 after-print line buffer = cond (leb (length line) (length buffer)) (line ++ drop (length line) buffer) buffer
+
+-- the numbers of a word are those below n that it holds, each once and in order, and decimal digits read back as the number
+pub record Print-laws : Type 0 where
+  pub only-held : (w n i : ℕ) → Has (numbers w n) i → (i < n) × (bit w i ≡ true)
+  pub every-held : (w n i : ℕ) → i < n → bit w i ≡ true → Has (numbers w n) i
+  pub in-order : (w n : ℕ) → Increasing ltb (numbers w n)
+  pub reads-back : (n : ℕ) → n < 2 ^ 64 → Numeral 10 (decimal n) × (value 10 (decimal n) ≡ n)

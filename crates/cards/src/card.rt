@@ -1,8 +1,9 @@
 // A card: its first line tells the size of a table, and the later ones mark and clear pairs of it.
 ghost use mathlib.Core.Path.{_≡_};
 ghost use Rattle.tables.specs.Sheet.{sheet};
-ghost use Rattle.cards.specs.Cards.{told, size-told, heading, putting, after-put, filled, Applied};
-ghost use Rattle.cards.specs.Forms.{form, field-number, both-numbers};
+ghost use Rattle.cards.specs.Cards.{told, size-told, heading, putting, after-put, filled};
+ghost use Rattle.cards.specs.Forms.{form, field-number, both-numbers, Form-laws};
+ghost use Rattle.cards.specs.Lines.{Line-laws};
 use crate::forms::TextLine;
 use crate::forms::number;
 use crate::forms::read;
@@ -17,7 +18,9 @@ use tables::table::Roster;
 
 /// The size that the first line of `text` tells, or a fault at that line.
 pub fn head(text: &[u8]) -> Result<Size, TextFault>
-    ensures { λ r. ⌜ told r ≡ heading (now (text .entry)) ⌝ }
+    ensures answer { λ r. ⌜ told r ≡ heading (now (text .entry)) ⌝ }
+    ensures lines_are_the_text { λ _. ⌜ Line-laws ⌝ }
+    ensures forms_are_these { λ _. ⌜ Form-laws ⌝ }
 {
     let (line, _) = split(text, b'\n');
     match read_size(line) {

@@ -7,3 +7,5 @@ mod forms;
 pub mod print;
 pub mod refusals;
 mod split;
+#[cfg(test)]
+mod tests;

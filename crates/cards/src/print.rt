@@ -1,7 +1,11 @@
 // Printing into a caller's buffer: a crew, how a list of crews ends, or a fault, each as one line.
+ghost use mathlib.Core.Bool.{true};
 ghost use mathlib.Core.Path.{_≡_};
+ghost use Prim.Native.Nat.{_≤_};
+ghost use lib.ListN.{length};
+ghost use Rattle.std.specs.Results.{isOk};
 ghost use Rattle.sessions.specs.Crews.{sides};
-ghost use Rattle.cards.specs.Prints.{crew-line, tail-line, fault-text, printing, after-print};
+ghost use Rattle.cards.specs.Prints.{crew-line, tail-line, fault-text, printing, after-print, Print-laws};
 use crate::draft::Draft;
 use crate::ending::Tail;
 use crate::refusals::BufferRefusal;
@@ -14,6 +18,8 @@ use words::refusal::Refusal;
 pub fn print(crew: &Crew, buffer: &mut [u8]) -> Result<usize, BufferRefusal>
     ensures answer { λ r. ⌜ r ≡ printing (crew-line (sides (now (crew .entry)))) (now (buffer .entry)) ⌝ }
     ensures after { λ _. ⌜ now (buffer .exit) ≡ after-print (crew-line (sides (now (crew .entry)))) (now (buffer .entry)) ⌝ }
+    ensures laws { λ _. ⌜ Print-laws ⌝ }
+    ensures suffices { λ r. ⌜ (366 ≤ length (now (buffer .entry)) → isOk r ≡ true) ⌝ }
 {
     let mut draft = Draft::new();
     draft.push_set(crew.members());
@@ -27,6 +33,7 @@ pub fn print(crew: &Crew, buffer: &mut [u8]) -> Result<usize, BufferRefusal>
 pub fn tail(ending: Tail, buffer: &mut [u8]) -> Result<usize, BufferRefusal>
     ensures answer { λ r. ⌜ r ≡ printing (tail-line ending) (now (buffer .entry)) ⌝ }
     ensures after { λ _. ⌜ now (buffer .exit) ≡ after-print (tail-line ending) (now (buffer .entry)) ⌝ }
+    ensures suffices { λ r. ⌜ (25 ≤ length (now (buffer .entry)) → isOk r ≡ true) ⌝ }
 {
     let mut draft = Draft::new();
     match ending {
@@ -44,6 +51,7 @@ pub fn tail(ending: Tail, buffer: &mut [u8]) -> Result<usize, BufferRefusal>
 pub fn fault_line(fault: &TextFault, buffer: &mut [u8]) -> Result<usize, BufferRefusal>
     ensures answer { λ r. ⌜ r ≡ printing (fault-text (now (fault .entry))) (now (buffer .entry)) ⌝ }
     ensures after { λ _. ⌜ now (buffer .exit) ≡ after-print (fault-text (now (fault .entry))) (now (buffer .entry)) ⌝ }
+    ensures suffices { λ r. ⌜ (34 ≤ length (now (buffer .entry)) → isOk r ≡ true) ⌝ }
 {
     let mut draft = Draft::new();
     draft.push_text(b"fault ");

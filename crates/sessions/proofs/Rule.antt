@@ -44,6 +44,11 @@ crew-of-made x y hx hy e =
     let z = none-some (x, y) (sym e ∙ cond-false _ None (Some (x, y)) (or-from _ _ (ne-eqb x 0 (omega arith)) (ne-eqb y 0 (omega arith)))) in
     omega arith
 
+-- a product with something below it has no factor 0
+pub factor-some : (s n k : ℕ) → k < s * n → 0 < s
+factor-some zero n k h = let z = zero-mul n in absurd (omega arith)
+factor-some (suc s) n k h = omega arith
+
 module _ (g : Grid) (st : Finding) where
   -- ---- what a step takes
 
@@ -61,11 +66,7 @@ module _ (g : Grid) (st : Finding) where
 
   -- a step that takes a pair finds a starter
   pub some-starter : finished g st ≡ false → g .slots ≤ st .steps → 0 < starters g
-  some-starter h past = go (starters g) refl
-    where
-      go : (s : ℕ) → starters g ≡ s → 0 < starters g
-      go zero e = let l = unfinished-below h in let z = ap (λ s. s * length (st .found)) e ∙ zero-mul (length (st .found)) in absurd (omega arith)
-      go (suc s) e = omega arith
+  some-starter h past = let l = unfinished-below h in factor-some (starters g) (length (st .found)) (st .steps - g .slots) (omega arith)
 
   -- the steps of a finder with up to 512 found crews are few
   pub steps-few : Proper g → length (st .found) ≤ 512 → finished g st ≡ false → st .steps + 1 ≤ 64 + 64 * 512

@@ -4,7 +4,7 @@ use mathlib.Core.Logic.{_⊎_, inl, inr, ⊎-elim}
 use mathlib.Core.Bool.{true, false}
 use mathlib.Core.List.{List, [], _∷_, _++_}
 use Prim.Native.Nat.{ℕ, zero, suc, _+_, _-_, _*_, _/_, _%_, _≤_, _<_}
-use native.Mathlib.Nat.{div-lt-iff-lt-mul, mod-lt, mul-comm, mul-suc, zero-mul}
+use native.Mathlib.Nat.{div-lt-iff-lt-mul, mod-lt, mul-comm, mul-suc}
 use native.Mathlib.Numerals.{add-one}
 use native.Mathlib.Omega.{arith}
 use lib.Bits.{bitAnd}
@@ -24,7 +24,7 @@ use Rattle.sessions.specs.Crews.{crew-of}
 use Rattle.sessions.specs.Finder.{Finding, beginning, starts, starter-words, starters, members-at, met, wanted, finished, fresh, stepped, after-step, reached}
 use Rattle.sessions.specs.Found.{has-members}
 use Rattle.sessions.proofs.MemberWords.{words, Once, held-tells, once-none, once-push}
-use Rattle.sessions.proofs.Rule.{Adds, unfinished-below, some-starter, wanted-slot, wanted-pair, fresh-held, fresh-new, fresh-some, crew-of-made, done-after, idle-after, full-after, added-after}
+use Rattle.sessions.proofs.Rule.{Adds, factor-some, unfinished-below, wanted-slot, wanted-pair, fresh-held, fresh-new, fresh-some, crew-of-made, done-after, idle-after, full-after, added-after}
 use Rattle.sessions.proofs.Starting.{starts-tells, starts-none, words-next, words-same, words-from-slots, slots-in-words}
 
 pub record Sound (g : Grid) (limit : ℕ) (st : Finding) : Type 0 where
@@ -83,11 +83,7 @@ module _ (g : Grid) (proper : Proper g) (limit : ℕ) (st : Finding) (sound : So
 
   module _ (past : g .slots ≤ st .steps) (k : ℕ) (within : k < starters g * length (st .found)) where
     pair-starter : 0 < starters g
-    pair-starter = go (starters g) refl
-      where
-        go : (s : ℕ) → starters g ≡ s → 0 < starters g
-        go zero e = let z = ap (λ s. s * length (st .found)) e in let y = zero-mul (length (st .found)) in absurd (omega arith)
-        go (suc s) e = omega arith
+    pair-starter = factor-some (starters g) (length (st .found)) k within
 
     pair-crew : k / starters g < length (st .found)
     pair-crew = div-lt-iff-lt-mul {k = starters g} {x = k} {y = length (st .found)} pair-starter .1 (let e = mul-comm (starters g) (length (st .found)) in omega arith)

@@ -64,7 +64,8 @@ unfoldable pub finished : Grid → Finding → Bool
 unfolding starters
 finished g st = leb (g .slots + starters g * length (st .found)) (st .steps)
 
--- the crew that the next step adds: the wanted members with their common slots, unless there are none or a found crew has these members
+-- the crew that the next step adds: the wanted members with their common slots, unless there are none or a found crew has these members.
+-- At every state that steps reach, members that are wanted have common slots.
 unfoldable pub fresh : Grid → Finding → Option (ℕ × ℕ)
 unfolding wanted
 fresh g st = cond (has-members (wanted g st) (st .found)) None (crew-of (wanted g st) (common-slots g (wanted g st)))

@@ -1,13 +1,12 @@
-use Prim.Native.Nat.{_+_, _-_, _<_, _≤_, _^_}
-use mathlib.Core.Path.{_≡_, sym, ap, _∙_}
+use Prim.Native.Nat.{_+_, _<_, _^_}
+use mathlib.Core.Path.{sym, ap, _∙_}
 use native.Mathlib.Omega.{arith}
 use lib.ListN.{length}
 use borrow.Author.Needs.{needs}
 use borrow.Author.Tests.{true-eqb, false-eqb}
-use Rattle.std.specs.declared.result.Result.the-variants.{Ok, Err}
 use Rattle.tables.specs.Sheet.{sheet}
 use Rattle.cards.specs.Cards.{applied, filled}
-use Rattle.cards.proofs.Cards.{Put, applied-left, applied-end, applied-fault, applied-more}
+use Rattle.cards.proofs.Cards.{applied-left, applied-end, applied-fault, applied-more}
 use Rattle.cards.proofs.Lines.{behind-shorter, later-lines}
 use Rattle.cards.proofs.card.apply.Needs as need
 

@@ -1,14 +1,13 @@
-use Prim.Native.Nat.{_<_, _≤_, _^_}
-use mathlib.Core.Path.{_≡_, sym, ap, _∙_}
+use Prim.Native.Nat.{_<_, _^_}
+use mathlib.Core.Path.{_≡_, ap, _∙_}
 use mathlib.Core.List.{[], _∷_, _++_}
 use native.Mathlib.Omega.{arith}
-use lib.ListN.{length}
 use borrow.Author.Needs.{needs}
 use Rattle.std.specs.Written.{decimal}
 use Rattle.cards.specs.Drafts.{written}
 use Rattle.cards.specs.Prints.{fault-text, printing, after-print}
-use Rattle.cards.specs.Refusals.{cause-number}
-use Rattle.cards.proofs.Drafts.{then}
+use Rattle.cards.proofs.Drafts.{then, print-fits}
+use Rattle.cards.proofs.Lengths.{length-fault-text}
 use Rattle.cards.proofs.Sets.{twenty-digits}
 use Rattle.cards.proofs.print.fault_line.Needs as need
 
@@ -36,7 +35,10 @@ returns c =
     let begun = then (decimal (c .from .result)) (then (102 ∷ 97 ∷ 117 ∷ 108 ∷ 116 ∷ 32 ∷ []) (c .new-draft .ensures .text) (c .push-text .ensures .text)) (c .push-number .ensures .text) ∙ ap (λ k. (102 ∷ 97 ∷ 117 ∷ 108 ∷ 116 ∷ 32 ∷ []) ++ decimal k) number in
     let line : written (c .push .last .self) ≡ fault-text (c .args .fault .now) =
     then (10 ∷ []) (then (decimal (c .args .fault .now .line)) (then (32 ∷ 108 ∷ 105 ∷ 110 ∷ 101 ∷ 32 ∷ []) begun (c .push-text-2 .ensures .text)) (c .push-number-2 .ensures .text)) (c .push .ensures .text) in
+    let fit : c .args .fault .now .line < 2 ^ 64 = search needs in
+    let answers = c .copy-to .ensures .answer ∙ ap (λ l. printing l (c .args .buffer .now)) line in
     record {
-      answer = c .copy-to .ensures .answer ∙ ap (λ l. printing l (c .args .buffer .now)) line;
+      answer = answers;
       after = c .copy-to .ensures .after ∙ ap (λ l. after-print l (c .args .buffer .now)) line;
+      suffices = λ room. print-fits (fault-text (c .args .fault .now)) (c .args .buffer .now) (c .copy-to .result) answers (omega (arith, length-fault-text (c .args .fault .now) fit));
     }

@@ -1,12 +1,14 @@
-use Prim.Native.Nat.{_<_, _^_}
+use Prim.Native.Nat.{_<_, _≤_, _^_}
 use mathlib.Core.Path.{_≡_, sym, ap, _∙_}
 use mathlib.Core.List.{[], _∷_}
 use native.Mathlib.Omega.{arith}
+use lib.ListN.{length}
 use borrow.Author.Needs.{needs}
 use Rattle.std.specs.Written.{decimal}
 use Rattle.cards.specs.Drafts.{written}
 use Rattle.cards.specs.Prints.{tail-line, printing, after-print}
-use Rattle.cards.proofs.Drafts.{then}
+use Rattle.cards.proofs.Drafts.{then, print-fits}
+use Rattle.cards.proofs.Lengths.{length-end}
 use Rattle.cards.proofs.Sets.{twenty-digits}
 use Rattle.cards.proofs.print.tail.Needs as need
 use Rattle.cards.proofs.print.tail.Needs.{in-End, in-More}
@@ -37,7 +39,16 @@ returns c =
           then (10 ∷ []) (ap written (w .draft-is) ∙ then (109 ∷ 111 ∷ 114 ∷ 101 ∷ []) new (w .push-text-in-More .ensures .text)) (c .push .ensures .text)
           ∙ ap tail-line (sym (w .in-More .is))
     ] in
+    let short : length (tail-line (c .args .ending)) ≤ 25 =
+    elim (c .match-ending .came) [
+      | in-End w ↦
+          let fit : w .in-End .count < 2 ^ 64 = search needs in
+          omega (arith, length-end (w .in-End .count) fit, ap (λ t. length (tail-line t)) (w .in-End .is))
+      | in-More w ↦ omega (arith, ap (λ t. length (tail-line t)) (w .in-More .is))
+    ] in
+    let answers = c .copy-to .ensures .answer ∙ ap (λ l. printing l (c .args .buffer .now)) line in
     record {
-      answer = c .copy-to .ensures .answer ∙ ap (λ l. printing l (c .args .buffer .now)) line;
+      answer = answers;
       after = c .copy-to .ensures .after ∙ ap (λ l. after-print l (c .args .buffer .now)) line;
+      suffices = λ room. print-fits (tail-line (c .args .ending)) (c .args .buffer .now) (c .copy-to .result) answers (omega (arith, short));
     }

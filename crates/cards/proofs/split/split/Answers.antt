@@ -1,10 +1,9 @@
-use Prim.Native.Nat.{_-_, _≤_}
-use mathlib.Core.Path.{_≡_, _∙_, ap}
+use Prim.Native.Nat.{_≤_}
+use mathlib.Core.Path.{_∙_, ap}
 use native.Mathlib.Nat.{sub-zero}
 use native.Mathlib.Numerals.{add-one}
 use native.Mathlib.Omega.{arith}
 use lib.ListN.{length, take, drop}
-use borrow.Author.Needs.{needs}
 use Rattle.std.proofs.shelf.Lists.{take-rest, drop-all}
 use Rattle.cards.proofs.Splits.{up-to-first, behind-first, up-to-none, behind-none}
 use Rattle.cards.proofs.split.split.Needs as need

@@ -1,12 +1,12 @@
 use Prim.Native.Nat.{_≤_}
-use mathlib.Core.Path.{_≡_, ap, sym, subst, _∙_}
+use mathlib.Core.Path.{_≡_, ap, sym, _∙_}
 use mathlib.Core.List.{_++_}
 use native.Mathlib.Omega.{arith}
 use lib.ListN.{length, getD, take, drop, set}
 use borrow.Author.Needs.{needs}
 use Rattle.std.specs.declared.result.Result.the-variants.{Ok}
 use Rattle.cards.specs.Drafts.{written}
-use Rattle.cards.proofs.Drafts.{length-written, copied-more, printing-taken, after-print-taken, printing-refused, after-print-refused}
+use Rattle.cards.proofs.Drafts.{length-written, copied-more, printing-taken, after-print-taken}
 use Rattle.cards.proofs.draft.Draft.copy_to.Needs as need
 
 pub loop-i-again : need.loop-i-again

@@ -2,7 +2,6 @@ use mathlib.Core.Path.{sym, ap, _∙_}
 use mathlib.Core.List.{[], _∷_, _++_}
 use native.Mathlib.Omega.{arith}
 use lib.ListN.{getD, take}
-use borrow.Author.Needs.{needs}
 use Rattle.std.proofs.shelf.Lists.{take-more, take-all}
 use Rattle.cards.specs.Drafts.{written}
 use Rattle.cards.proofs.Drafts.{added}
