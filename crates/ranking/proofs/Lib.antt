@@ -1,1 +1,2 @@
 pub mod CrewOrders
+pub mod WorkedTable

@@ -1,6 +1,5 @@
 pub mod Complete
 pub mod FoundLists
-pub mod FourByFour
 pub mod MemberWords
 pub mod Places
 pub mod Reading

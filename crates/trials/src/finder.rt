@@ -14,6 +14,8 @@ use std::error::AnyError;
 use tables::bit_roster::BitRoster;
 use tables::bit_roster::roster::BitRosterRoster;
 use tables::bit_roster::table::BitRosterTable;
+use tables::size::Size;
+use tables::table::Roster;
 
 // What was compared.
 #[derive(Clone, Copy)]
@@ -219,6 +221,32 @@ fn try_table(heap: Global, generator: &mut Generator, tally: &mut Tally) -> Resu
     Ok(())
 }
 
+// Every member free except in the slot of the same number, stepped until the finder is done or refuses.
+fn busy_once(rt: &LibcRuntime, count: u8, limit: Limit) -> Result<(), AnyError> {
+    let Ok(size) = Size::new(count, count) else {
+        return Err("the size is refused".into());
+    };
+    let mut roster = BitRoster::new(size);
+    for i in 0..count {
+        for j in 0..count {
+            if i != j {
+                let _ = roster.mark(i, j);
+            }
+        }
+    }
+    let (session, answer) = Listing::find_all(roster, limit);
+    let found = session.found_len();
+    let ended = match answer {
+        Ok(()) => "done",
+        Err(StepRefusal::Full) => "refused with 8",
+    };
+    println!(
+        rt,
+        "{count} by {count}, each busy once: {found} found, {ended}"
+    )?;
+    Ok(())
+}
+
 /// Tries many tables and prints what was compared.
 pub fn run(rt: &LibcRuntime) -> Result<(), AnyError> {
     let mut tally = Tally {
@@ -243,5 +271,9 @@ pub fn run(rt: &LibcRuntime) -> Result<(), AnyError> {
         rt,
         "finder: {tables} tables, {steps} steps compared, {done} done, {refused} refused with 8, mismatches: {mismatches}"
     )?;
-    Ok(())
+    let Ok(limit) = Limit::new(512) else {
+        return Err("the limit is refused".into());
+    };
+    busy_once(rt, 9, limit)?;
+    busy_once(rt, 10, limit)
 }

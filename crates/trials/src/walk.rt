@@ -4,8 +4,10 @@ use crate::plain::Plain;
 use crate::plain::comes_before;
 use crate::plain::marked;
 use crate::plain::small_size;
+use sessions::crew::CrewPartialEq;
 use sessions::limit::Limit;
 use sessions::listing::Listing;
+use sessions::tour::list_into;
 use std::io;
 use tables::bit_roster::BitRoster;
 use tables::bit_roster::roster::BitRosterRoster;
@@ -46,6 +48,26 @@ fn compare(session: &mut Listing<BitRoster>, plain: &Plain, word: u64, tally: &m
     tally.walks = tally.walks.saturating_add(1);
 }
 
+// The whole list at once: as many crews as the plain test counts, each as `next` gives it, and then none.
+fn compare_list(session: &mut Listing<BitRoster>, plain: &Plain, tally: &mut Tally) {
+    let mut places = [None; 130];
+    list_into(session, &mut places);
+    session.rewind();
+    let mut given = 0u32;
+    for place in places.iter() {
+        if *place != session.next() {
+            tally.mismatches = tally.mismatches.saturating_add(1);
+        }
+        if place.is_some() {
+            given = given.saturating_add(1);
+        }
+    }
+    if given != plain.crews_from(u64::MAX) {
+        tally.mismatches = tally.mismatches.saturating_add(1);
+    }
+    tally.walks = tally.walks.saturating_add(1);
+}
+
 // One table, walked from its start, from the word 0 and from arbitrary words.
 fn try_table(limit: Limit, generator: &mut Generator, tally: &mut Tally) {
     let Some(size) = small_size(generator) else {
@@ -53,6 +75,7 @@ fn try_table(limit: Limit, generator: &mut Generator, tally: &mut Tally) {
     };
     let (session, plain) = marked(size, generator);
     let mut listing = session.close(limit);
+    compare_list(&mut listing, &plain, tally);
     compare(&mut listing, &plain, u64::MAX, tally);
     compare(&mut listing, &plain, 0, tally);
     for _ in 0..24u32 {
