@@ -13,7 +13,7 @@ use Rattle.tables.proofs.Crews.{crew_manned, crews_same, crews_increasing, crews
 
 -- a crew's member word is below 2 ^ 64
 pub crew_below : (g : Grid) → Proper g → (x y : ℕ) → is_crew g x y ≡ true → x < 2 ^ 64
-crew_below g p x y h = lt_of_lt_of_le (crew_manned g x y h).0.Members-only (pow_mono p.members_fit)
+crew_below g p x y h = lt_of_lt_of_le (crew_manned g x y h).0.members_only (pow_mono p.members_fit)
 
 pub has_ahead : (g : Grid) (p x y : ℕ) → is_crew g x y ≡ true → before x p ≡ false → Has (ahead g p) (x, y)
 unfolding ahead

@@ -119,7 +119,7 @@ module _ (g : Grid) (proper : Proper g) (p : ℕ) where
   word_below = word_fits g proper (members_of g p) (cut_below p g.members)
 
   crew_cut : (x y : ℕ) → is_crew g x y ≡ true → before x p ≡ before x (members_of g p)
-  crew_cut x y h = before_cut g.members x p proper.members_fit (crew_manned g x y h).0.Members-only
+  crew_cut x y h = before_cut g.members x p proper.members_fit (crew_manned g x y h).0.members_only
 
   -- the word is a crew's
   pub from_here : (y : ℕ) → is_crew g (members_of g p) y ≡ true → FirstFrom g p (members_of g p) y

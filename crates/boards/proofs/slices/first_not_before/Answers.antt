@@ -17,7 +17,7 @@ pub loop-low-preserved : goal.loop-low-preserved
 loop-low-preserved g c =
     let placed =
     behind_place g.met.L.Line.lawful c.args.lines.now c.requires c.args.line.now c.index-lines-middle.result _ (omega arith)
-    c.index-lines-middle.is (λ e. c.in-default.not-Less (c.compare.ensures ∙ e)) in
+    c.index-lines-middle.is (λ e. c.in_default.not-Less (c.compare.ensures ∙ e)) in
     omega arith
 
 pub loop-low-smaller-in-Less : goal.loop-low-smaller-in-Less

@@ -12,7 +12,7 @@ returns g c =
     let room : c.args.used < places memory = omega arith in
     record {
       answer = put_taken g.met.L.Line.lawful memory c.args.used c.requires.increasing c.args.line c.in-Err.at off room;
-      put = λ _. ap (λ l. set l c.in-Err.at c.args.line) c.copy-within.ensures.after
+      put = λ _. ap (λ l. set l c.in-Err.at c.args.line) c.copy_within.ensures.after
           ∙ put_memory g.met.L.Line.lawful memory c.args.used c.requires.increasing c.args.line c.in-Err.at off (omega arith);
       refused = λ e. absurd (true≢false e);
     }

@@ -11,6 +11,6 @@ returns-in-Ok g c =
     let on : Ok c.in-Ok.at ≡ standing g.L.Line.order (take c.args.used memory) c.args.line.now = rw sub-zero at c.in-Ok.ensures.stands in
     record {
       answer = take_given g.met.L.Line.lawful memory c.args.used c.requires.increasing c.args.line.now c.in-Ok.at on;
-      taken = λ _. c.copy-within.ensures.after ∙ take_memory g.met.L.Line.lawful memory c.args.used c.requires.increasing c.args.line.now c.in-Ok.at on;
+      taken = λ _. c.copy_within.ensures.after ∙ take_memory g.met.L.Line.lawful memory c.args.used c.requires.increasing c.args.line.now c.in-Ok.at on;
       refused = λ e. absurd (true≢false e);
     }

@@ -10,8 +10,8 @@ returns g c =
     let x = c.args.members in
     let y = c.args.slots in
     let grid = g.T.Table.grid c.args.table.now in
-    let tested = (ltb 0 x && ltb 0 y) && (eqb y c.common-slots-common.result && eqb x c.common-members-sharing.result) in
-    let crew : tested ≡ is_crew grid x y = ap₂ (λ (s m : ℕ). (ltb 0 x && ltb 0 y) && (eqb y s && eqb x m)) c.common-slots-common.ensures c.common-members-sharing.ensures in
+    let tested = (ltb 0 x && ltb 0 y) && (eqb y c.common_slots-common.result && eqb x c.common_members-sharing.result) in
+    let crew : tested ≡ is_crew grid x y = ap₂ (λ (s m : ℕ). (ltb 0 x && ltb 0 y) && (eqb y s && eqb x m)) c.common_slots-common.ensures c.common_members-sharing.ensures in
     record {
       crew = crew;
       biclique = Decides-at tested (is_crew grid x y) crew (crews_are_maximal_bicliques grid (g.met.T.Table.proper c.args.table.now) x y);

@@ -21,7 +21,7 @@ loop-j-preserved g c =
     let proper = (proper_turned (g.T.Table.grid c.args.table.now) (g.met.T.Table.proper c.args.table.now)) in
     let within = subst (λ n. c.loop-j.j < n) c.slots-count.ensures c.loop-j-test.true in
     elim c.if-holds.branch [
-      | then-holds w ↦ w.shared-is ∙ share_taken _ proper c.args.slots c.loop-j.j c.loop-j.shared within c.loop-j.invariant _ w.member-word-shared.ensures (sym c.holds.ensures ∙ w.if-holds.true)
+      | then-holds w ↦ w.shared-is ∙ share_taken _ proper c.args.slots c.loop-j.j c.loop-j.shared within c.loop-j.invariant _ w.member_word-shared.ensures (sym c.holds.ensures ∙ w.if-holds.true)
       | else-holds w ↦ w.shared-is ∙ share_skipped _ proper c.args.slots c.loop-j.j c.loop-j.shared within c.loop-j.invariant (sym c.holds.ensures ∙ w.if-holds.false)
     ]
 

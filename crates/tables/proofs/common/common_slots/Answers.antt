@@ -21,7 +21,7 @@ loop-i-preserved g c =
     let proper = (g.met.T.Table.proper c.args.table.now) in
     let within = subst (λ n. c.loop-i.i < n) c.members-count.ensures c.loop-i-test.true in
     elim c.if-holds.branch [
-      | then-holds w ↦ w.shared-is ∙ share_taken _ proper c.args.members c.loop-i.i c.loop-i.shared within c.loop-i.invariant _ w.slot-word-shared.ensures (sym c.holds.ensures ∙ w.if-holds.true)
+      | then-holds w ↦ w.shared-is ∙ share_taken _ proper c.args.members c.loop-i.i c.loop-i.shared within c.loop-i.invariant _ w.slot_word-shared.ensures (sym c.holds.ensures ∙ w.if-holds.true)
       | else-holds w ↦ w.shared-is ∙ share_skipped _ proper c.args.members c.loop-i.i c.loop-i.shared within c.loop-i.invariant (sym c.holds.ensures ∙ w.if-holds.false)
     ]
 

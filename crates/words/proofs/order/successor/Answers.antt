@@ -15,8 +15,8 @@ some c = omega arith
 fits : (c : goal.Else-word-eq0) → c.args.word < 2 ^ 64
 fits c = omega arith
 
-pub overflow-sub-result : goal.overflow-sub-result
-overflow-sub-result c = rw (top_shifted c.args.word (some c) (fits c)) (top_held c.args.word (some c) (fits c))
+pub overflow_sub-result : goal.overflow_sub-result
+overflow_sub-result c = rw (top_shifted c.args.word (some c) (fits c)) (top_held c.args.word (some c) (fits c))
 
 pub returns : goal.returns
 returns c =

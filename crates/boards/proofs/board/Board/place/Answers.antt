@@ -8,7 +8,7 @@ pub returns : goal.returns
 returns g c =
     let board = c.args.self.now in
     let memory = board.lines.now in
-    let found = c.place-in.ensures ∙ ap (λ ys. place_of g.L.Line.order ys c.args.line.now) (handed_on memory board.used c.len-used.result c.len-used.ensures) in
+    let found = c.place_in.ensures ∙ ap (λ ys. place_of g.L.Line.order ys c.args.line.now) (handed_on memory board.used c.len-used.result c.len-used.ensures) in
     record {
       found = found;
       counted = found ∙ place_counted g.met.L.Line.lawful (in_use memory board.used) c.args.line.now c.requires;

@@ -3,7 +3,7 @@ use Rattle.std.specs.Option.{option_map}
 use Rattle.tables.specs.Sides.{sides}
 use Rattle.finders.proofs.FoundLists.{number_none, held_here, held_past, held_nowhere}
 use Rattle.finders.proofs.found.Found.holds.Goals as goal
-use Rattle.finders.proofs.found.Found.holds.Goals.{in-Some+else-members, in-default}
+use Rattle.finders.proofs.found.Found.holds.Goals.{in-Some+else-members, in_default}
 
 pub returns-then-members : goal.returns-then-members
 returns-then-members c =
@@ -13,9 +13,9 @@ pub loop-k-preserved : goal.loop-k-preserved
 loop-k-preserved c =
     elim c.match-get.branch [
       | in-Some+else-members w ↦ held_past c.args.members _ c.loop-k.k c.loop-k.invariant (sides w.in-Some.crew) (sym w.in-Some.ensures) (λ e. w.if-members.false (w.members.ensures ∙ e))
-      | in-default w ↦
+      | in_default w ↦
           let e = c.len-k-end.ensures in
-          let none = number_none _ c.loop-k.k (sym c.get.ensures ∙ ap (option_map sides) w.in-default.is) in
+          let none = number_none _ c.loop-k.k (sym c.get.ensures ∙ ap (option_map sides) w.in_default.is) in
           absurd (omega arith)
     ]
 

@@ -3,8 +3,8 @@ use Rattle.finders.specs.Places.{front_crews}
 use Rattle.finders.proofs.Places.{filled_none}
 use Rattle.finders.proofs.found.Found.new.Goals as goal
 
-pub invariant-of-result : goal.invariant-of-result
-invariant-of-result c = (refl, (omega arith, (filled_none 512, (λ i j l m e. omega arith, tt))))
+pub invariant_of-result : goal.invariant_of-result
+invariant_of-result c = (refl, (omega arith, (filled_none 512, (λ i j l m e. omega arith, tt))))
 
 pub returns : goal.returns
 unfolding front_crews

@@ -13,10 +13,10 @@ listed c = free (goal.at.listed c).Start
 pub bounds-self-self : goal.bounds-self-self
 bounds-self-self c = let l = free (goal.at.bounds-self-self c).Start in let long = c.args.self.now.places_count in omega arith
 
-pub invariant-of-self : goal.invariant-of-self
-invariant-of-self c =
+pub invariant_of-self : goal.invariant_of-self
+invariant_of-self c =
     let f = c.args.self.now in
-    let l = free (goal.at.invariant-of-self c).Start in
+    let l = free (goal.at.invariant_of-self c).Start in
     let long = f.places_count in
     let fits : f.used + 1 ≤ 512 = omega arith in
     (length-set _ _ _ ∙ long, (fits, (filled_more f.places f.used c.args.crew l f.filled, (apart_more f.places f.used c.args.crew l f.apart c.requires.fresh, tt))))

@@ -7,7 +7,7 @@ use Rattle.tables.proofs.Greedy.{pass_start, pass_more, tried_taken, tried_skipp
 use Rattle.walks.specs.Rows.{rows_grid}
 use Rattle.walks.proofs.Snapshots.{rows_word}
 use Rattle.walks.proofs.rows.Rows.complete.Goals as goal
-use Rattle.walks.proofs.rows.Rows.complete.Goals.{then-may-part, else-may-part}
+use Rattle.walks.proofs.rows.Rows.complete.Goals.{then-may_part, else-may_part}
 
 pub loop-k-init : goal.loop-k-init
 loop-k-init c =
@@ -24,12 +24,12 @@ loop-k-preserved c =
     let word = rows_word r k (search rules) in
     let fewer = ap (bit_and c.loop-k.slots) word in
     let step = ap (pass g i p) (add-one k) ∙ pass_more g i p k (omega arith) ∙ ap (tried g i p k) c.loop-k.invariant in
-    elim c.if-may-part.branch [
-      | then-may-part w ↦
-          step ∙ tried_taken g i p k c.loop-k.members c.loop-k.slots (ap (fits g i p) (sym fewer) ∙ sym c.may-part.ensures ∙ w.if-may-part.true)
+    elim c.if-may_part.branch [
+      | then-may_part w ↦
+          step ∙ tried_taken g i p k c.loop-k.members c.loop-k.slots (ap (fits g i p) (sym fewer) ∙ sym c.may_part.ensures ∙ w.if-may_part.true)
           ∙ ap₂ (λ x y. (x, y)) (sym (w.members-is ∙ ap (bit_or c.loop-k.members) (w.only-members.ensures ∙ lone_power k (omega arith)))) (sym (w.slots-is ∙ fewer))
-      | else-may-part w ↦
-          step ∙ tried_skipped g i p k c.loop-k.members c.loop-k.slots (ap (fits g i p) (sym fewer) ∙ sym c.may-part.ensures ∙ w.if-may-part.false)
+      | else-may_part w ↦
+          step ∙ tried_skipped g i p k c.loop-k.members c.loop-k.slots (ap (fits g i p) (sym fewer) ∙ sym c.may_part.ensures ∙ w.if-may_part.false)
           ∙ ap₂ (λ x y. (x, y)) (sym w.members-is) (sym w.slots-is)
     ]
 

@@ -29,5 +29,5 @@ returns-then-word-eq0 c =
 pub returns : goal.returns
 returns c =
     let d = (goal.at.returns c).Start in
-    c.is-closed.ensures
+    c.is_closed.ensures
     ∙ sym (by_closed d ∙ ap₂ (λ s t. (s && t) && closed_below (rows_grid c.args.self.now) c.args.self.now.members c.args.word c.args.slots) (lt-ltb 0 c.args.word (omega arith)) (lt-ltb 0 c.args.slots (omega arith)))

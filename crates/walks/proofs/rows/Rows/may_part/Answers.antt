@@ -12,5 +12,5 @@ pub returns : goal.returns
 unfolding fits
 returns c =
     let g = rows_grid c.args.self.now in
-    c.is-closed.ensures ∙ ap (λ n. closed_below g n c.args.front c.args.slots) (add-one c.args.i)
+    c.is_closed.ensures ∙ ap (λ n. closed_below g n c.args.front c.args.slots) (add-one c.args.i)
     ∙ sym (ap (λ t. t && closed_below g (Prim.Native.Nat.suc c.args.i) c.args.front c.args.slots) (lt-ltb 0 c.args.slots (omega arith)))

@@ -16,8 +16,8 @@ loop-i-preserved g c =
           (get_or-set_same c.loop-i.words c.loop-i.i c.slot_word.result 0 (omega arith) ∙ c.slot_word.ensures),
     )
 
-pub invariant-of-result : goal.invariant-of-result
-invariant-of-result g c =
+pub invariant_of-result : goal.invariant_of-result
+invariant_of-result g c =
     let proper = g.met.T.Table.proper c.args.table.now in
     let n = c.members-members.ensures in
     let m = c.slots-slots.ensures in

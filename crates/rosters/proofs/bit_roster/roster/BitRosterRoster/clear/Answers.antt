@@ -41,12 +41,9 @@ counted_now c =
     let r = c.args.self.now in
     counted_clear r.size.members r.size.slots r.free r.rows _ c.args.member c.args.slot r.counted (member_below c) (slot_below c) (was c) (row_put c)
 
-pub invariant-of-self : goal.invariant-of-self
-invariant-of-self c =
-    let r = c.args.self.now in (
-      inside_put r.rows _ c.args.member c.args.slot false (row_put c) r.size.members r.size.slots r.inside (member_below c) (slot_below c),
-      (mirrored_put r.rows _ c.args.member c.args.slot false (row_put c) r.columns _ r.mirrored (column_put c), (counted_now c, tt)),
-    )
+pub invariant_of-self : goal.invariant_of-self
+invariant_of-self c =
+    let r = c.args.self.now in record { inside = inside_put r.rows _ c.args.member c.args.slot false (row_put c) r.size.members r.size.slots r.inside (member_below c) (slot_below c); mirrored = mirrored_put r.rows _ c.args.member c.args.slot false (row_put c) r.columns _ r.mirrored (column_put c); counted = counted_now c }
 
 pub returns-then-holds : goal.returns-then-holds
 returns-then-holds c =
