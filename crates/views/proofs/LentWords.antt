@@ -7,24 +7,13 @@ use Rattle.words.specs.Bits.{bit}
 use Rattle.words.proofs.Bits.{bit-and, bit_zero, gathered, all_below}
 use Rattle.words.proofs.Listed.{bit_ones, and_below}
 use Rattle.tables.specs.Filed.{held}
-use Rattle.tables.specs.Grid.{Proper, slot_word, member_word}
+use Rattle.tables.specs.Grid.{slot_word, member_word}
 use Rattle.views.specs.Lent.{lent_grid}
 use Rattle.words.proofs.Gathering.{and_swap, gathers_nothing, GatheredBelow}
 
 -- a missing word holds nothing
 held_missing : (words : List ℕ) (i j : ℕ) → length words ≤ i → held words i j ≡ false
 held_missing words i j past = ap (λ w. bit w j) (get_or_past words i 0 past) ∙ bit_zero j
-
-pub lent_proper : (n m : ℕ) (words : List ℕ) → 1 ≤ n → n ≤ 64 → 1 ≤ m → m ≤ 64 → Proper (lent_grid n m words)
-lent_proper n m words some_member members_fit some_slot slots_fit = record {
-  some_member = some_member;
-  members_fit = members_fit;
-  some_slot = some_slot;
-  slots_fit = slots_fit;
-  inside = λ i j h.
-      let both = and_parts (ltb i n) (ltb j m) (and_parts (ltb i n && ltb j m) (held words i j) h).0 in
-      (ltb-true i n both.0, ltb-true j m both.1);
-}
 
 module _ (n m : ℕ) (words : List ℕ) (n-fits : n ≤ 64) (m-fits : m ≤ 64) where
   pub lent_word : (i all : ℕ) → i < n → get_or words i 0 < 2 ^ 64 → all ≡ 2 ^ min m 64 - 1 → bit_and (get_or words i 0) all ≡ slot_word (lent_grid n m words) i

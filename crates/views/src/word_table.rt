@@ -1,6 +1,8 @@
 // A table over words that are lent to it, one for each member.
 ghost use Rattle.std.specs.Prelude.{◌≡◌};
+ghost use Rattle.std.proofs.Common.{arith};
 ghost use Rattle.views.specs.Lent.{lent_grid};
+ghost use Rattle.views.specs.Proper.{lent_proper};
 
 use tables::size::Size;
 use tables::table::Table;
@@ -26,6 +28,8 @@ impl<'a> WordTable<'a> {
 
 impl Table for WordTable<'_> {
     ghost grid = { λ t. lent_grid t.size.members t.size.slots t.words.now };
+
+    ghost proper = { λ t. lent_proper t.size.members t.size.slots t.words.now (Prim.omega arith) (Prim.omega arith) (Prim.omega arith) (Prim.omega arith) };
 
     fn members(&self) -> u8 {
         self.size.members()
