@@ -22,7 +22,7 @@ returns-then-is_finished g c =
     record { answer = sym (done_answer _ st limit over); after = sym (done_after _ st limit over); limit = refl }
 
 pub invariant_of-self : goal.invariant_of-self
-invariant_of-self g c = (c.args.self.now.within_limit, (few g (goal.at.invariant_of-self g c).Else-is_finished, tt))
+invariant_of-self g c = record { within_limit = c.args.self.now.within_limit; steps_fit = few g (goal.at.invariant_of-self g c).Else-is_finished }
 
 pub returns-in_default : goal.returns-in_default
 returns-in_default g c =
@@ -57,7 +57,7 @@ invariant_of-self-2 g c =
     let len = c.len.ensures in
     let crews = c.crews.ensures in
     let within : length (found_crews c.push.new.self) ≤ f.limit.crews = omega arith in
-    (within, (few g (goal.at.invariant_of-self-2 g c).Else-is_finished, tt))
+    record { within_limit = within; steps_fit = few g (goal.at.invariant_of-self-2 g c).Else-is_finished }
 
 pub returns : goal.returns
 returns g c =

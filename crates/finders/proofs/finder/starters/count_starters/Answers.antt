@@ -20,8 +20,8 @@ loop-j-preserved g c =
     let j = c.loop-j.j in
     let next = ap (λ n. length (starter_words grid n)) (add-one j) in
     elim c.if-is_starter.branch [
-      | then-is_starter w ↦ w.count_is ∙ ap (λ n. n + 1) c.loop-j.invariant ∙ sym (next ∙ words_taken grid j (sym c.is_starter.ensures ∙ w.if-is_starter.true))
-      | else-is_starter w ↦ w.count_is ∙ c.loop-j.invariant ∙ sym (next ∙ words_skipped grid j (sym c.is_starter.ensures ∙ w.if-is_starter.false))
+      | then-is_starter w ↦ w.count-is ∙ ap (λ n. n + 1) c.loop-j.invariant ∙ sym (next ∙ words_taken grid j (sym c.is_starter.ensures ∙ w.if-is_starter.true))
+      | else-is_starter w ↦ w.count-is ∙ c.loop-j.invariant ∙ sym (next ∙ words_skipped grid j (sym c.is_starter.ensures ∙ w.if-is_starter.false))
     ]
 
 pub returns : goal.returns

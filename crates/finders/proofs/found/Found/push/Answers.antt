@@ -19,7 +19,7 @@ invariant_of-self c =
     let l = free (goal.at.invariant_of-self c).Start in
     let long = f.places_count in
     let fits : f.used + 1 ≤ 512 = omega arith in
-    (length-set _ _ _ ∙ long, (fits, (filled_more f.places f.used c.args.crew l f.filled, (apart_more f.places f.used c.args.crew l f.apart c.requires.fresh, tt))))
+    record { places_count = length-set _ _ _ ∙ long; fits = fits; filled = filled_more f.places f.used c.args.crew l f.filled; apart = apart_more f.places f.used c.args.crew l f.apart c.requires.fresh }
 
 pub returns : goal.returns
 returns c = let f = c.args.self.now in front_more f.places f.used c.args.crew (free (goal.at.returns c).Start)

@@ -22,10 +22,7 @@ invariant_of-result g c =
     let n = c.members-members.ensures in
     let m = c.slots-slots.ensures in
     let past = c.loop-i-test.false in
-    let inside = read_inside _ proper c.loop-i.words c.loop-i.invariant.0 (λ i h. c.loop-i.invariant.1 i (omega arith)) in (
-      subst (λ k. 1 ≤ k) (sym n) proper.some_member,
-      (subst (λ k. k ≤ 64) (sym n) proper.members_fit, (subst (λ k. 1 ≤ k) (sym m) proper.some_slot, (subst (λ k. k ≤ 64) (sym m) proper.slots_fit, (subst₂ (λ n m. Inside n m c.loop-i.words) (sym n) (sym m) inside, tt)))),
-    )
+    let inside = read_inside _ proper c.loop-i.words c.loop-i.invariant.0 (λ i h. c.loop-i.invariant.1 i (omega arith)) in record { some_member = subst (λ k. 1 ≤ k) (sym n) proper.some_member; members_fit = subst (λ k. k ≤ 64) (sym n) proper.members_fit; some_slot = subst (λ k. 1 ≤ k) (sym m) proper.some_slot; slots_fit = subst (λ k. k ≤ 64) (sym m) proper.slots_fit; inside = subst₂ (λ n m. Inside n m c.loop-i.words) (sym n) (sym m) inside }
 
 pub returns : goal.returns
 returns g c =
