@@ -52,8 +52,8 @@ returns g c =
     record {
       answers = answers;
       left = ap (λ t. ahead t c.loop-place.session.walk.position) (sym grid) ∙ inv.2 ∙ ap₂ (λ k t. drop k (crews t)) end grid;
-      every-crew-is-reached = reaches_each _ n _ answers;
-      crews-are-listed = crews_listed _ proper;
+      every_crew_is_reached = reaches_each _ n _ answers;
+      crews_are_listed = crews_listed _ proper;
       table = inv.0 ∙ same;
       finder = inv.1 ∙ c.rewind.ensures.finder;
     }

@@ -17,14 +17,14 @@ loop-rest-init g c =
       ap (applied s 2) (later_lines c.args.text.now) ∙ ap (applied_left s 2 (length c.args.text.now)) (sym back),
     )
 
-pub overflow-add-line : goal.overflow-add-line
-overflow-add-line g c =
+pub overflow_add-line : goal.overflow_add-line
+overflow_add-line g c =
     let some : 0 < length c.loop-rest.rest.now = omega (arith, false-eqb _ 0 c.loop-rest-test.ensures) in
     let more : c.loop-rest.line + 1 < 2 ^ 64 = omega (arith, c.loop-rest.invariant.1 some) in
     search rules
 
-pub overflow-sub-result : goal.overflow-sub-result
-overflow-sub-result g c = c.loop-rest.invariant.0
+pub overflow_sub-result : goal.overflow_sub-result
+overflow_sub-result g c = c.loop-rest.invariant.0
 
 pub loop-rest-smaller : goal.loop-rest-smaller
 loop-rest-smaller g c =
@@ -38,8 +38,8 @@ loop-rest-preserved g c =
       omega (arith, c.loop-rest.invariant.0, shorter, ap length back),
       λ more. omega (arith, c.loop-rest.invariant.1 some, shorter, ap length back),
       c.loop-rest.invariant.2
-          ∙ applied_more _ _ (c.loop-rest.line + 1) (length c.args.text.now) c.loop-rest.rest.now _ _ c.in-default.field-0
-          (record { some = some; fits = c.loop-rest.invariant.0; first = c.split-in-loop-rest.ensures.front; answers = c.in-default.ensures.answer; leaves = c.put.ensures.after }) back,
+          ∙ applied_more _ _ (c.loop-rest.line + 1) (length c.args.text.now) c.loop-rest.rest.now _ _ c.in_default.field-0
+          (record { some = some; fits = c.loop-rest.invariant.0; first = c.split-in-loop-rest.ensures.front; answers = c.in_default.ensures.answer; leaves = c.put.ensures.after }) back,
     )
 
 pub returns-in-Err : goal.returns-in-Err

@@ -10,14 +10,14 @@ pub returns-in-Ok : goal.returns-in-Ok
 returns-in-Ok c =
     record {
       answer = ap (fault_at 1 0) (c.in-Ok.ensures ∙ ap (λ l. size_told (form l)) c.split.ensures.front ∙ first_told c.args.text.now);
-      lines-are-the-text = line_laws;
-      forms-are-these = form_laws;
+      lines_are_the_text = line_laws;
+      forms_are_these = form_laws;
     }
 
 pub returns-in-Err : goal.returns-in-Err
 returns-in-Err c =
     record {
       answer = ap (fault_at 1 0) (c.in-Err.ensures ∙ ap (λ l. size_told (form l)) c.split.ensures.front ∙ first_told c.args.text.now);
-      lines-are-the-text = line_laws;
-      forms-are-these = form_laws;
+      lines_are_the_text = line_laws;
+      forms_are_these = form_laws;
     }

@@ -4,7 +4,7 @@ use Rattle.texts.specs.Forms.{taken_apart, size_line, free_line, off_line}
 use Rattle.texts.specs.Splits.{up_to, behind}
 use Rattle.texts.proofs.Beginnings.{size_apart, free_apart, off_apart, none_apart}
 use Rattle.texts.proofs.forms.read.Goals as goal
-use Rattle.texts.proofs.forms.read.Goals.{then-line-lt5+in-111·+in-102·+in-102·-line-3+in-32·, else-line-lt5+in-111·+in-102·+in-102·-line-15+in-32·, in-default-via-then-line-lt4, in-default-via-else-line-lt4+then-line-lt5+in-111·+in-102·+in-102·-line-3+in-default·, in-default-via-else-line-lt4+then-line-lt5+in-111·+in-102·+in-default·, in-default-via-else-line-lt4+then-line-lt5+in-111·+in-default·, in-default-via-else-line-lt4+then-line-lt5+in-default·, in-default-via-else-line-lt4+else-line-lt5+in-115·+in-105·+in-122·+in-101·+in-default·, in-default-via-else-line-lt4+else-line-lt5+in-115·+in-105·+in-122·+in-default·, in-default-via-else-line-lt4+else-line-lt5+in-115·+in-105·+in-default·, in-default-via-else-line-lt4+else-line-lt5+in-115·+in-default·, in-default-via-else-line-lt4+else-line-lt5+in-102·+in-114·+in-101·+in-101·-line-12+in-default·, in-default-via-else-line-lt4+else-line-lt5+in-102·+in-114·+in-101·+in-default·, in-default-via-else-line-lt4+else-line-lt5+in-102·+in-114·+in-default·, in-default-via-else-line-lt4+else-line-lt5+in-102·+in-default·, in-default-via-else-line-lt4+else-line-lt5+in-111·+in-102·+in-102·-line-15+in-default·, in-default-via-else-line-lt4+else-line-lt5+in-111·+in-102·+in-default·, in-default-via-else-line-lt4+else-line-lt5+in-111·+in-default·, in-default-via-else-line-lt4+else-line-lt5+in-default·}
+use Rattle.texts.proofs.forms.read.Goals.{then-line-lt5+in-111·+in-102·+in-102·-line-3+in-32·, else-line-lt5+in-111·+in-102·+in-102·-line-15+in-32·, in_default-via-then-line-lt4, in_default-via-else-line-lt4+then-line-lt5+in-111·+in-102·+in-102·-line-3+in_default·, in_default-via-else-line-lt4+then-line-lt5+in-111·+in-102·+in_default·, in_default-via-else-line-lt4+then-line-lt5+in-111·+in_default·, in_default-via-else-line-lt4+then-line-lt5+in_default·, in_default-via-else-line-lt4+else-line-lt5+in-115·+in-105·+in-122·+in-101·+in_default·, in_default-via-else-line-lt4+else-line-lt5+in-115·+in-105·+in-122·+in_default·, in_default-via-else-line-lt4+else-line-lt5+in-115·+in-105·+in_default·, in_default-via-else-line-lt4+else-line-lt5+in-115·+in_default·, in_default-via-else-line-lt4+else-line-lt5+in-102·+in-114·+in-101·+in-101·-line-12+in_default·, in_default-via-else-line-lt4+else-line-lt5+in-102·+in-114·+in-101·+in_default·, in_default-via-else-line-lt4+else-line-lt5+in-102·+in-114·+in_default·, in_default-via-else-line-lt4+else-line-lt5+in-102·+in_default·, in_default-via-else-line-lt4+else-line-lt5+in-111·+in-102·+in-102·-line-15+in_default·, in_default-via-else-line-lt4+else-line-lt5+in-111·+in-102·+in_default·, in_default-via-else-line-lt4+else-line-lt5+in-111·+in_default·, in_default-via-else-line-lt4+else-line-lt5+in_default·}
 
 pub returns-in-empty : goal.returns-in-empty
 unfolding taken_apart
@@ -34,25 +34,25 @@ returns-in-102 c =
     (λ i. free_line ((c.split-in-102.ensures.front ∙ ap (up_to 32) rest) i) ((c.split-in-102.ensures.back ∙ ap (behind 32) rest) i))
     ∙ free_apart bs (omega (arith, ltb-false)) (omega arith, (omega arith, (omega arith, (omega arith, (omega arith, tt)))))
 
-pub returns-in-default : goal.returns-in-default
-returns-in-default c =
+pub returns-in_default : goal.returns-in_default
+returns-in_default c =
     let none = none_apart c.args.line.now (omega (arith, ltb-false)) in
-    elim c.in-default.branch [
-      | in-default-via-then-line-lt4 w ↦ none (λ long is. omega (arith, ltb-true, ltb-false)) (λ long is. omega (arith, ltb-true, ltb-false)) (λ long is. omega (arith, ltb-true, ltb-false))
-      | in-default-via-else-line-lt4+then-line-lt5+in-111·+in-102·+in-102·-line-3+in-default· w ↦ none (λ long is. omega (arith, ltb-true, ltb-false)) (λ long is. omega (arith, ltb-true, ltb-false)) (λ long is. omega (arith, ltb-true, ltb-false))
-      | in-default-via-else-line-lt4+then-line-lt5+in-111·+in-102·+in-default· w ↦ none (λ long is. omega (arith, ltb-true, ltb-false)) (λ long is. omega (arith, ltb-true, ltb-false)) (λ long is. omega (arith, ltb-true, ltb-false))
-      | in-default-via-else-line-lt4+then-line-lt5+in-111·+in-default· w ↦ none (λ long is. omega (arith, ltb-true, ltb-false)) (λ long is. omega (arith, ltb-true, ltb-false)) (λ long is. omega (arith, ltb-true, ltb-false))
-      | in-default-via-else-line-lt4+then-line-lt5+in-default· w ↦ none (λ long is. omega (arith, ltb-true, ltb-false)) (λ long is. omega (arith, ltb-true, ltb-false)) (λ long is. omega (arith, ltb-true, ltb-false))
-      | in-default-via-else-line-lt4+else-line-lt5+in-115·+in-105·+in-122·+in-101·+in-default· w ↦ none (λ long is. omega (arith, ltb-true, ltb-false)) (λ long is. omega (arith, ltb-true, ltb-false)) (λ long is. omega (arith, ltb-true, ltb-false))
-      | in-default-via-else-line-lt4+else-line-lt5+in-115·+in-105·+in-122·+in-default· w ↦ none (λ long is. omega (arith, ltb-true, ltb-false)) (λ long is. omega (arith, ltb-true, ltb-false)) (λ long is. omega (arith, ltb-true, ltb-false))
-      | in-default-via-else-line-lt4+else-line-lt5+in-115·+in-105·+in-default· w ↦ none (λ long is. omega (arith, ltb-true, ltb-false)) (λ long is. omega (arith, ltb-true, ltb-false)) (λ long is. omega (arith, ltb-true, ltb-false))
-      | in-default-via-else-line-lt4+else-line-lt5+in-115·+in-default· w ↦ none (λ long is. omega (arith, ltb-true, ltb-false)) (λ long is. omega (arith, ltb-true, ltb-false)) (λ long is. omega (arith, ltb-true, ltb-false))
-      | in-default-via-else-line-lt4+else-line-lt5+in-102·+in-114·+in-101·+in-101·-line-12+in-default· w ↦ none (λ long is. omega (arith, ltb-true, ltb-false)) (λ long is. omega (arith, ltb-true, ltb-false)) (λ long is. omega (arith, ltb-true, ltb-false))
-      | in-default-via-else-line-lt4+else-line-lt5+in-102·+in-114·+in-101·+in-default· w ↦ none (λ long is. omega (arith, ltb-true, ltb-false)) (λ long is. omega (arith, ltb-true, ltb-false)) (λ long is. omega (arith, ltb-true, ltb-false))
-      | in-default-via-else-line-lt4+else-line-lt5+in-102·+in-114·+in-default· w ↦ none (λ long is. omega (arith, ltb-true, ltb-false)) (λ long is. omega (arith, ltb-true, ltb-false)) (λ long is. omega (arith, ltb-true, ltb-false))
-      | in-default-via-else-line-lt4+else-line-lt5+in-102·+in-default· w ↦ none (λ long is. omega (arith, ltb-true, ltb-false)) (λ long is. omega (arith, ltb-true, ltb-false)) (λ long is. omega (arith, ltb-true, ltb-false))
-      | in-default-via-else-line-lt4+else-line-lt5+in-111·+in-102·+in-102·-line-15+in-default· w ↦ none (λ long is. omega (arith, ltb-true, ltb-false)) (λ long is. omega (arith, ltb-true, ltb-false)) (λ long is. omega (arith, ltb-true, ltb-false))
-      | in-default-via-else-line-lt4+else-line-lt5+in-111·+in-102·+in-default· w ↦ none (λ long is. omega (arith, ltb-true, ltb-false)) (λ long is. omega (arith, ltb-true, ltb-false)) (λ long is. omega (arith, ltb-true, ltb-false))
-      | in-default-via-else-line-lt4+else-line-lt5+in-111·+in-default· w ↦ none (λ long is. omega (arith, ltb-true, ltb-false)) (λ long is. omega (arith, ltb-true, ltb-false)) (λ long is. omega (arith, ltb-true, ltb-false))
-      | in-default-via-else-line-lt4+else-line-lt5+in-default· w ↦ none (λ long is. omega (arith, ltb-true, ltb-false)) (λ long is. omega (arith, ltb-true, ltb-false)) (λ long is. omega (arith, ltb-true, ltb-false))
+    elim c.in_default.branch [
+      | in_default-via-then-line-lt4 w ↦ none (λ long is. omega (arith, ltb-true, ltb-false)) (λ long is. omega (arith, ltb-true, ltb-false)) (λ long is. omega (arith, ltb-true, ltb-false))
+      | in_default-via-else-line-lt4+then-line-lt5+in-111·+in-102·+in-102·-line-3+in_default· w ↦ none (λ long is. omega (arith, ltb-true, ltb-false)) (λ long is. omega (arith, ltb-true, ltb-false)) (λ long is. omega (arith, ltb-true, ltb-false))
+      | in_default-via-else-line-lt4+then-line-lt5+in-111·+in-102·+in_default· w ↦ none (λ long is. omega (arith, ltb-true, ltb-false)) (λ long is. omega (arith, ltb-true, ltb-false)) (λ long is. omega (arith, ltb-true, ltb-false))
+      | in_default-via-else-line-lt4+then-line-lt5+in-111·+in_default· w ↦ none (λ long is. omega (arith, ltb-true, ltb-false)) (λ long is. omega (arith, ltb-true, ltb-false)) (λ long is. omega (arith, ltb-true, ltb-false))
+      | in_default-via-else-line-lt4+then-line-lt5+in_default· w ↦ none (λ long is. omega (arith, ltb-true, ltb-false)) (λ long is. omega (arith, ltb-true, ltb-false)) (λ long is. omega (arith, ltb-true, ltb-false))
+      | in_default-via-else-line-lt4+else-line-lt5+in-115·+in-105·+in-122·+in-101·+in_default· w ↦ none (λ long is. omega (arith, ltb-true, ltb-false)) (λ long is. omega (arith, ltb-true, ltb-false)) (λ long is. omega (arith, ltb-true, ltb-false))
+      | in_default-via-else-line-lt4+else-line-lt5+in-115·+in-105·+in-122·+in_default· w ↦ none (λ long is. omega (arith, ltb-true, ltb-false)) (λ long is. omega (arith, ltb-true, ltb-false)) (λ long is. omega (arith, ltb-true, ltb-false))
+      | in_default-via-else-line-lt4+else-line-lt5+in-115·+in-105·+in_default· w ↦ none (λ long is. omega (arith, ltb-true, ltb-false)) (λ long is. omega (arith, ltb-true, ltb-false)) (λ long is. omega (arith, ltb-true, ltb-false))
+      | in_default-via-else-line-lt4+else-line-lt5+in-115·+in_default· w ↦ none (λ long is. omega (arith, ltb-true, ltb-false)) (λ long is. omega (arith, ltb-true, ltb-false)) (λ long is. omega (arith, ltb-true, ltb-false))
+      | in_default-via-else-line-lt4+else-line-lt5+in-102·+in-114·+in-101·+in-101·-line-12+in_default· w ↦ none (λ long is. omega (arith, ltb-true, ltb-false)) (λ long is. omega (arith, ltb-true, ltb-false)) (λ long is. omega (arith, ltb-true, ltb-false))
+      | in_default-via-else-line-lt4+else-line-lt5+in-102·+in-114·+in-101·+in_default· w ↦ none (λ long is. omega (arith, ltb-true, ltb-false)) (λ long is. omega (arith, ltb-true, ltb-false)) (λ long is. omega (arith, ltb-true, ltb-false))
+      | in_default-via-else-line-lt4+else-line-lt5+in-102·+in-114·+in_default· w ↦ none (λ long is. omega (arith, ltb-true, ltb-false)) (λ long is. omega (arith, ltb-true, ltb-false)) (λ long is. omega (arith, ltb-true, ltb-false))
+      | in_default-via-else-line-lt4+else-line-lt5+in-102·+in_default· w ↦ none (λ long is. omega (arith, ltb-true, ltb-false)) (λ long is. omega (arith, ltb-true, ltb-false)) (λ long is. omega (arith, ltb-true, ltb-false))
+      | in_default-via-else-line-lt4+else-line-lt5+in-111·+in-102·+in-102·-line-15+in_default· w ↦ none (λ long is. omega (arith, ltb-true, ltb-false)) (λ long is. omega (arith, ltb-true, ltb-false)) (λ long is. omega (arith, ltb-true, ltb-false))
+      | in_default-via-else-line-lt4+else-line-lt5+in-111·+in-102·+in_default· w ↦ none (λ long is. omega (arith, ltb-true, ltb-false)) (λ long is. omega (arith, ltb-true, ltb-false)) (λ long is. omega (arith, ltb-true, ltb-false))
+      | in_default-via-else-line-lt4+else-line-lt5+in-111·+in_default· w ↦ none (λ long is. omega (arith, ltb-true, ltb-false)) (λ long is. omega (arith, ltb-true, ltb-false)) (λ long is. omega (arith, ltb-true, ltb-false))
+      | in_default-via-else-line-lt4+else-line-lt5+in_default· w ↦ none (λ long is. omega (arith, ltb-true, ltb-false)) (λ long is. omega (arith, ltb-true, ltb-false)) (λ long is. omega (arith, ltb-true, ltb-false))
     ]
