@@ -9,10 +9,10 @@ use Rattle.prints.specs.Prints.{crew_line}
 use Rattle.cards.proofs.Shown.{part_printed, some_left, lines_more, ended, going_on}
 use Rattle.cards.proofs.answer.show_ahead.Goals as goal
 
-pub returns-in-default : goal.returns-in-default
-returns-in-default c =
+pub returns-in_default : goal.returns-in_default
+returns-in_default c =
     let l = c.loop-shown in
-    let is = c.in-default.ensures.answer ∙ ap (λ t. first (ahead (bit_grid t) l.listing.walk.position)) l.invariant.1 ∙ ap first l.invariant.2 in
+    let is = c.in_default.ensures.answer ∙ ap (λ t. first (ahead (bit_grid t) l.listing.walk.position)) l.invariant.1 ∙ ap first l.invariant.2 in
     let end = ended l.shown _ (omega arith) l.invariant.0 is in
     (end.0, l.invariant.3 ∙ ap (λ b. vec_items c.args.answer.now ++ b) end.1)
 
@@ -30,7 +30,7 @@ loop-shown-preserved c =
           ∙ ap (λ t. rest (ahead (bit_grid t) l.listing.walk.position)) l.invariant.1
           ∙ ap rest l.invariant.2
           ∙ sym (drop_more l.shown cs),
-      c.in-ok-add.ensures ∙ (λ i. l.invariant.3 i ++ line i) ∙ lines_more (vec_items c.args.answer.now) l.shown cs (sides crew) is,
+      c.in_ok-add.ensures ∙ (λ i. l.invariant.3 i ++ line i) ∙ lines_more (vec_items c.args.answer.now) l.shown cs (sides crew) is,
     )
 
 pub returns-in-Some-next : goal.returns-in-Some-next

@@ -13,9 +13,9 @@ returns c =
     let g = bit_grid c.args.session.roster in
     let start : ahead (bit_grid c.close-listing.result.table) c.close-listing.result.walk.position ≡ crews g =
     (λ i. ahead (bit_grid (c.close-listing.ensures.table i)) (c.close-listing.ensures.start i)) ∙ ahead_all g in
-    let lines = c.in-ok-ending.ensures in
-    let ends : c.in-ok-ending.ending ≡ ending (crews g) = lines.0 ∙ ap ending start in
-    let last = part_printed (tail_line c.in-ok-ending.ending) (replicate 25 0) _ _ c.tail-count.ensures.answer c.tail-count.ensures.after (c.tail-count.ensures.suffices (omega arith)) in
+    let lines = c.in_ok-ending.ensures in
+    let ends : c.in_ok-ending.ending ≡ ending (crews g) = lines.0 ∙ ap ending start in
+    let last = part_printed (tail_line c.in_ok-ending.ending) (replicate 25 0) _ _ c.tail-count.ensures.answer c.tail-count.ensures.after (c.tail-count.ensures.suffices (omega arith)) in
     IfOk-weaker c.add.result _ _
     (λ u added.
     added

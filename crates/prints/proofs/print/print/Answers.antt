@@ -11,12 +11,12 @@ pub returns : goal.returns
 unfolding crew_line
 returns c =
     let line : written c.push.new.self ≡ crew_line (sides c.args.crew.now) =
-    then (10 ∷ []) (then (set_text c.slots.result) (then (32 ∷ 47 ∷ 32 ∷ []) (then (set_text c.members.result) c.new-draft.ensures.text c.push-set.ensures.text) c.push-text.ensures.text) c.push-set-2.ensures.text) c.push.ensures.text
+    then (10 ∷ []) (then (set_text c.slots.result) (then (32 ∷ 47 ∷ 32 ∷ []) (then (set_text c.members.result) c.new-draft.ensures.text c.push_set.ensures.text) c.push_text.ensures.text) c.push_set-2.ensures.text) c.push.ensures.text
     ∙ ap crew_line (λ i. (c.members.ensures i, c.slots.ensures i)) in
-    let answers = c.copy-to.ensures.answer ∙ ap (λ l. printing l c.args.buffer.now) line in
+    let answers = c.copy_to.ensures.answer ∙ ap (λ l. printing l c.args.buffer.now) line in
     record {
       answer = answers;
-      after = c.copy-to.ensures.after ∙ ap (λ l. after_print l c.args.buffer.now) line;
+      after = c.copy_to.ensures.after ∙ ap (λ l. after_print l c.args.buffer.now) line;
       laws = print_laws;
-      suffices = λ room. print_fits (crew_line (sides c.args.crew.now)) c.args.buffer.now c.copy-to.result answers (omega (arith, length_crew_line (sides c.args.crew.now)));
+      suffices = λ room. print_fits (crew_line (sides c.args.crew.now)) c.args.buffer.now c.copy_to.result answers (omega (arith, length_crew_line (sides c.args.crew.now)));
     }

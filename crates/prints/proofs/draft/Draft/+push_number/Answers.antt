@@ -8,8 +8,8 @@ use Rattle.prints.proofs.draft.Draft.+push_number.Goals.{then-number-ge10, else-
 length_step : (n : ℕ) → 10 ≤ n → n < 2 ^ 64 → length (decimal n) ≡ length (decimal (n / 10)) + 1
 length_step n h fit = ap length (decimal_step n h fit) ∙ length-append (decimal (n / 10)) ((48 + n % 10) ∷ [])
 
-pub push-number-requires : goal.push-number-requires
-push-number-requires t c =
+pub push_number-requires : goal.push_number-requires
+push_number-requires t c =
     let fit : c.args.number < 2 ^ 64 = search rules in
     (search rules, omega (arith, length_step c.args.number c.if-number-ge10.true fit, c.requires))
 
@@ -18,7 +18,7 @@ push-requires t c =
     let n = c.args.number in
     let fit : n < 2 ^ 64 = search rules in
     elim c.if-number-ge10.branch [
-      | then-number-ge10 w ↦ omega (arith, length_step n w.if-number-ge10.true fit, c.requires, w.push-number.ensures.long, ap (λ d. d.length) w.self-is)
+      | then-number-ge10 w ↦ omega (arith, length_step n w.if-number-ge10.true fit, c.requires, w.push_number.ensures.long, ap (λ d. d.length) w.self-is)
       | else-number-ge10 w ↦ omega (arith, decimal_nonempty n fit, c.requires, ap (λ d. d.length) w.self-is)
     ]
 
@@ -29,8 +29,8 @@ returns t c =
     elim c.if-number-ge10.branch [
       | then-number-ge10 w ↦
           record {
-            text = added (written c.args.self.now) (decimal (n / 10)) ((48 + n % 10) ∷ []) (ap written w.self-is ∙ w.push-number.ensures.text) c.push.ensures.text ∙ ap (λ l. written c.args.self.now ++ l) (sym (decimal_step n w.if-number-ge10.true fit));
-            long = omega (arith, length_step n w.if-number-ge10.true fit, w.push-number.ensures.long, c.push.ensures.long, ap (λ d. d.length) w.self-is);
+            text = added (written c.args.self.now) (decimal (n / 10)) ((48 + n % 10) ∷ []) (ap written w.self-is ∙ w.push_number.ensures.text) c.push.ensures.text ∙ ap (λ l. written c.args.self.now ++ l) (sym (decimal_step n w.if-number-ge10.true fit));
+            long = omega (arith, length_step n w.if-number-ge10.true fit, w.push_number.ensures.long, c.push.ensures.long, ap (λ d. d.length) w.self-is);
           }
       | else-number-ge10 w ↦
           let small : n % 10 ≡ n = omega (arith, w.if-number-ge10.false) in
