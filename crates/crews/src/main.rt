@@ -1,4 +1,6 @@
 // Reads a card from standard input and writes its crews, or its first fault.
+#![tactic(auto)]
+
 ghost use Rattle.std.specs.Prelude.{◌≤◌, length, IfOk};
 
 use cards::answer::answer;

@@ -1,9 +1,9 @@
 -- A finished finder has found every crew, and no finder finds more crews than there are. Assumes nothing.
-use Rattle.std.proofs.Common.{◌≡◌, ℕ, suc, ◌+◌, ◌-◌, ◌*◌, ◌/◌, ◌%◌, ◌^◌, ◌<◌, ◌≤◌, true, false, List, [], ◌∷◌, ◌++◌, length, get_or, Some, sym, ap, ◌∙◌, subst, ap₂, mod-eq_of_lt, le_antisymm, mul-le-mul_left, zero-add, mul-suc, arith}
+use Rattle.std.proofs.Common.{◌≡◌, ℕ, suc, ◌+◌, ◌*◌, ◌/◌, ◌%◌, ◌^◌, ◌<◌, ◌≤◌, true, false, List, [], ◌∷◌, ◌++◌, length, get_or, Some, sym, ap, ◌∙◌, subst, ap₂, mod-eq_of_lt, le_antisymm, mul-le-mul_left, zero-add, mul-suc, arith}
 use native.Mathlib.Nat.{add-mul-div_left, add-mul-mod_self_left, div-eq_of_lt}
 use lib.Bits.{bit_and}
 use lib.ListN.{length-map}
-use Rattle.std.specs.List.{ContainsAt as Has, AllByRecursion as All}
+use Rattle.std.specs.List.{ContainsAt, AllByRecursion}
 use Rattle.std.proofs.ByRecursion.{all-has, All-map, All-weaker, All-get_or, has_get_or}
 use Rattle.std.proofs.lemmas.List.{get_or-take, length_push}
 use Rattle.words.proofs.Listed.{within_right, within_some, and_below}
@@ -43,11 +43,11 @@ module _ (g : Grid) (proper : Proper g) (limit : ℕ) (st : Finding) (sound : So
     past : g.slots ≤ st.steps
     past = let l = finished_past g st over in omega arith
 
-    slot_found : (j : ℕ) → j < g.slots → 0 < member_word g j → Has (words st.found) (member_word g j)
-    slot_found j l some = has_take (starters g) (words st.found) (member_word g j) (subst (λ m. Has m (member_word g j)) (sym (sound.late past)) (slots_in_words g g.slots j l some))
+    slot_found : (j : ℕ) → j < g.slots → 0 < member_word g j → ContainsAt (words st.found) (member_word g j)
+    slot_found j l some = has_take (starters g) (words st.found) (member_word g j) (subst (λ m. ContainsAt m (member_word g j)) (sym (sound.late past)) (slots_in_words g g.slots j l some))
 
     -- what a found crew and a slot have in common is found
-    more_found : (a j : ℕ) → j < g.slots → Has (words st.found) a → 0 < bit_and a (member_word g j) → Has (words st.found) (bit_and a (member_word g j))
+    more_found : (a j : ℕ) → j < g.slots → ContainsAt (words st.found) a → 0 < bit_and a (member_word g j) → ContainsAt (words st.found) (bit_and a (member_word g j))
     more_found a j l h some =
         let F = st.found in
         let s = starters g in
@@ -63,12 +63,12 @@ module _ (g : Grid) (proper : Proper g) (limit : ℕ) (st : Finding) (sound : So
         let same : met F s (q + s * p) ≡ bit_and a (member_word g j) = pair_met F s p q lq ∙ ap₂ bit_and at_p at-q in
         let inside = pair_within s p q (length F) lq lp in
         let all = finished_past g st over in
-        subst (Has (words F)) same (sound.paired (q + s * p) (omega arith) (subst (λ w. 0 < w) (sym same) some))
+        subst (ContainsAt (words F)) same (sound.paired (q + s * p) (omega arith) (subst (λ w. 0 < w) (sym same) some))
 
-    pub words_complete : (x y : ℕ) → is_crew g x y ≡ true → Has (words st.found) x
-    words_complete x y crew = crew_from_slots g proper (Has (words st.found)) slot_found more_found x y crew
+    pub words_complete : (x y : ℕ) → is_crew g x y ≡ true → ContainsAt (words st.found) x
+    words_complete x y crew = crew_from_slots g proper (ContainsAt (words st.found)) slot_found more_found x y crew
 
-    pub found_complete : (x y : ℕ) → is_crew g x y ≡ true → Has st.found (x, y)
+    pub found_complete : (x y : ℕ) → is_crew g x y ≡ true → ContainsAt st.found (x, y)
     found_complete x y crew =
         let F = st.found in
         let h = words_complete x y crew in
@@ -78,7 +78,7 @@ module _ (g : Grid) (proper : Proper g) (limit : ℕ) (st : Finding) (sound : So
         let members : c.0 ≡ x = sym (at_words F h.0) ∙ h.2 0 in
         let it = All-get_or (λ c. is_crew g c.0 c.1 ≡ true) F h.0 (0, 0) within sound.only_crews in
         let slots : c.1 ≡ y = crews_same g x c.1 y (subst (λ z. is_crew g z c.1 ≡ true) members it) crew in
-        subst (Has F) (ap₂ (λ a b. (a, b)) members slots) (has_get_or F h.0 (0, 0) within)
+        subst (ContainsAt F) (ap₂ (λ a b. (a, b)) members slots) (has_get_or F h.0 (0, 0) within)
 
   -- ---- how many crews there are
 
@@ -86,7 +86,7 @@ module _ (g : Grid) (proper : Proper g) (limit : ℕ) (st : Finding) (sound : So
   unfolding crews
   crews_length = length-map (crew_words g) (λ x. (x, common_slots g x))
 
-  found_words_manned : All (λ x. manned g x ≡ true) (words st.found)
+  found_words_manned : AllByRecursion (λ x. manned g x ≡ true) (words st.found)
   found_words_manned =
       All-map (λ x. manned g x ≡ true) (λ c. c.0) st.found
       (All-weaker (λ c. is_crew g c.0 c.1 ≡ true) (λ c. manned g c.0 ≡ true) (λ c h. crew_is_manned g c.0 c.1 h) st.found sound.only_crews)

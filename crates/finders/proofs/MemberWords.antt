@@ -1,7 +1,7 @@
 -- The member words of a list of crews: which words stand in it, each once, and one more; and a list of different words is no longer than one that
 -- holds them all. Assumes nothing.
-use Rattle.std.proofs.Common.{◌≡◌, ℕ, zero, suc, ◌+◌, ◌<◌, ◌≤◌, false, not, eqb, ◌⊎◌, List, [], ◌∷◌, ◌++◌, map, length, get_or, take, Decides, sym, refl, ◌∙◌, subst, ⊎_elim, suc-le-suc, arith}
-use Rattle.std.specs.List.{ContainsAt as Has}
+use Rattle.std.proofs.Common.{◌≡◌, ℕ, zero, suc, ◌<◌, ◌≤◌, false, not, eqb, List, [], ◌∷◌, ◌++◌, map, length, get_or, take, Decides, sym, refl, ◌∙◌, subst, ⊎_elim, suc-le-suc, arith}
+use Rattle.std.specs.List.{ContainsAt}
 use Rattle.std.proofs.ByRecursion.{all-has, All-take, all_has_itself}
 use Rattle.std.proofs.lemmas.List.{get_or_default, get_or_append_left, get_or_push, length_push}
 use Rattle.std.proofs.lemmas.Bool.{both_ways, cases_eq, cond_both, cond-false, eq-eqb, ne_eqb, not_from_true, not_from_false}
@@ -19,14 +19,14 @@ at_words [] k = refl
 at_words (c ∷ cs) zero = refl
 at_words (c ∷ cs) (suc k) = at_words cs k
 
-pub held_tells : (x : ℕ) (l : List (ℕ × ℕ)) → Decides (has_members x l) (Has (words l) x)
+pub held_tells : (x : ℕ) (l : List (ℕ × ℕ)) → Decides (has_members x l) (ContainsAt (words l) x)
 held_tells x [] = (λ e. absurd (both_ways false refl e), λ h. absurd (has_none x h))
 held_tells x (c ∷ cs) =
-    Decides-like _ (⊎_elim (λ e. subst (λ y. Has (c.0 ∷ words cs) y) e (has_first c.0 (words cs))) (has_later c.0 x (words cs))) (has_cases c.0 x (words cs))
+    Decides-like _ (⊎_elim (λ e. subst (λ y. ContainsAt (c.0 ∷ words cs) y) e (has_first c.0 (words cs))) (has_later c.0 x (words cs))) (has_cases c.0 x (words cs))
     (Decides-or (eqb c.0 x) (has_members x cs) (Decides-eqb c.0 x) (held_tells x cs))
 
-pub has_take : {A : Type 0} (n : ℕ) (l : List A) (x : A) → Has (take n l) x → Has l x
-has_take n l x h = all-has (Has l) (take n l) x (All-take (Has l) n l (all_has_itself l)) h
+pub has_take : {A : Type 0} (n : ℕ) (l : List A) (x : A) → ContainsAt (take n l) x → ContainsAt l x
+has_take n l x h = all-has (ContainsAt l) (take n l) x (All-take (ContainsAt l) n l (all_has_itself l)) h
 
 -- ---- each word once
 
@@ -36,7 +36,7 @@ Once l = (i j : ℕ) → i < length l → j < length l → get_or l i 0 ≡ get_
 pub once_none : Once []
 once_none i j li lj e = absurd (omega arith)
 
-module _ (x : ℕ) (l : List ℕ) (once : Once l) (fresh : Has l x → ⊥) where
+module _ (x : ℕ) (l : List ℕ) (once : Once l) (fresh : ContainsAt l x → ⊥) where
   pushed : (i : ℕ) → i < length l → get_or (l ++ x ∷ []) i 0 ≡ x → ⊥
   pushed i h e = fresh (i, h, λ d. get_or_default l i d 0 h ∙ sym (get_or_append_left l (x ∷ []) 0 i h) ∙ e)
 
@@ -65,7 +65,7 @@ unfolding without kept
 without_short x [] = omega arith
 without_short x (y ∷ ys) = let rest = without_short x ys in cond_both (not (eqb y x)) (y ∷ without x ys) (without x ys) (λ m. length m ≤ suc (length ys)) (λ _. suc-le-suc rest) (λ _. omega arith)
 
-without_shorter : (x : ℕ) (l : List ℕ) → Has l x → length (without x l) < length l
+without_shorter : (x : ℕ) (l : List ℕ) → ContainsAt l x → length (without x l) < length l
 unfolding without kept
 without_shorter x [] h = absurd (has_none x h)
 without_shorter x (y ∷ ys) h =
@@ -74,19 +74,19 @@ without_shorter x (y ∷ ys) h =
     (λ t. let rest = without_shorter x ys t in cond_both (not (eqb y x)) (y ∷ without x ys) (without x ys) (λ m. length m < suc (length ys)) (λ _. suc-le-suc rest) (λ _. omega arith))
     (has_cases y x ys h)
 
-has_without : (x y : ℕ) (l : List ℕ) → Has l y → (y ≡ x → ⊥) → Has (without x l) y
+has_without : (x y : ℕ) (l : List ℕ) → ContainsAt l y → (y ≡ x → ⊥) → ContainsAt (without x l) y
 unfolding without
 has_without x y l h other = has_kept (λ y. not (eqb y x)) y l h (not_from_false _ (ne_eqb y x other))
 
 once_rest : (x : ℕ) (l : List ℕ) → Once (x ∷ l) → Once l
 once_rest x l once i j hi hj e = let s = once (suc i) (suc j) (suc-le-suc hi) (suc-le-suc hj) e in omega arith
 
-once_first : (x : ℕ) (l : List ℕ) → Once (x ∷ l) → Has l x → ⊥
+once_first : (x : ℕ) (l : List ℕ) → Once (x ∷ l) → ContainsAt l x → ⊥
 once_first x l once h = let s = once (suc h.0) 0 (suc-le-suc h.1) (omega arith) (h.2 0) in omega arith
 
-pub once_short : (xs ys : List ℕ) → Once xs → ((x : ℕ) → Has xs x → Has ys x) → length xs ≤ length ys
+pub once_short : (xs ys : List ℕ) → Once xs → ((x : ℕ) → ContainsAt xs x → ContainsAt ys x) → length xs ≤ length ys
 once_short [] ys once within = omega arith
 once_short (x ∷ xs) ys once within =
-    let rest = once_short xs (without x ys) (once_rest x xs once) (λ y h. has_without x y ys (within y (has_later x y xs h)) (λ e. once_first x xs once (subst (Has xs) e h))) in
+    let rest = once_short xs (without x ys) (once_rest x xs once) (λ y h. has_without x y ys (within y (has_later x y xs h)) (λ e. once_first x xs once (subst (ContainsAt xs) e h))) in
     let less = without_shorter x ys (within x (has_first x xs)) in
     omega arith

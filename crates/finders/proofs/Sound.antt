@@ -1,8 +1,8 @@
 -- What every state that steps reach keeps to: crews only, each once, the starters first, and every pair that was taken met. Assumes nothing.
-use Rattle.std.proofs.Common.{◌≡◌, ℕ, zero, suc, ◌+◌, ◌-◌, ◌*◌, ◌/◌, ◌%◌, ◌<◌, ◌≤◌, true, false, ◌⊎◌, List, [], ◌∷◌, ◌++◌, length, take, Some, None, Option, sym, refl, ap, ◌∙◌, subst, ap₂, ⊎_elim, mod-lt, mul_comm, div-lt_iff_lt-mul, mul-suc, add-one, arith}
+use Rattle.std.proofs.Common.{◌≡◌, ℕ, zero, suc, ◌+◌, ◌-◌, ◌*◌, ◌/◌, ◌%◌, ◌<◌, ◌≤◌, true, false, List, [], ◌∷◌, ◌++◌, length, take, Some, None, Option, sym, refl, ap, ◌∙◌, subst, ap₂, ⊎_elim, mod-lt, mul_comm, div-lt_iff_lt-mul, mul-suc, add-one, arith}
 use lib.Bits.{bit_and}
 use lib.ListN.{length-map}
-use Rattle.std.specs.List.{ContainsAt as Has, AllByRecursion as All}
+use Rattle.std.specs.List.{ContainsAt, AllByRecursion}
 use Rattle.std.proofs.ByRecursion.{All-get_or, All-push, has_append_left, has_push}
 use Rattle.std.proofs.lemmas.List.{length-take, length_push, take_all, take-append-le, get_or_append_left, map_push}
 use Rattle.std.proofs.lemmas.Bool.{cases_Bool, cases_eq, cases_lt, both_ways}
@@ -19,7 +19,7 @@ use Rattle.finders.proofs.Rule.{factor_some, unfinished_below, wanted_slot, want
 use Rattle.finders.proofs.Starting.{starts_tells, starts_none, words_next, words_same, words_from_slots, slots_in_words}
 
 pub record Sound (g : Grid) (limit : ℕ) (st : Finding) : Type 0 where
-  pub only_crews : All (λ c. is_crew g c.0 c.1 ≡ true) st.found
+  pub only_crews : AllByRecursion (λ c. is_crew g c.0 c.1 ≡ true) st.found
   pub once : Once (words st.found)
   pub within_limit : length st.found ≤ limit
   pub within_pairs : st.steps ≤ g.slots + starters g * length st.found
@@ -28,7 +28,7 @@ pub record Sound (g : Grid) (limit : ℕ) (st : Finding) : Type 0 where
   -- and after the last slot they begin with the starters
   pub late : g.slots ≤ st.steps → take (starters g) (words st.found) ≡ starter_words g g.slots
   -- what a taken pair has in common is found
-  pub paired : (k : ℕ) → k < st.steps - g.slots → 0 < met st.found (starters g) k → Has (words st.found) (met st.found (starters g) k)
+  pub paired : (k : ℕ) → k < st.steps - g.slots → 0 < met st.found (starters g) k → ContainsAt (words st.found) (met st.found (starters g) k)
 
 pub starters_length : (g : Grid) → length (starter_words g g.slots) ≡ starters g
 unfolding starters
@@ -100,7 +100,7 @@ module _ (g : Grid) (proper : Proper g) (limit : ℕ) (st : Finding) (sound : So
         (cases_lt st.steps g.slots)
 
     -- nothing is added where no members are wanted, or a found crew has them
-    pub fresh_none : fresh g st ≡ None → 0 < wanted g st → Has (words st.found) (wanted g st)
+    pub fresh_none : fresh g st ≡ None → 0 < wanted g st → ContainsAt (words st.found) (wanted g st)
     fresh_none none some =
         ⊎_elim
         (λ held. (held_tells (wanted g st) st.found).0 held)
@@ -119,10 +119,10 @@ module _ (g : Grid) (proper : Proper g) (limit : ℕ) (st : Finding) (sound : So
         let shared = common_is_shared g (wanted g st) adds.some_member m.members_only in
         subst (λ d. is_crew g d.0 d.1 ≡ true) (sym adds.crew) (subst (λ y. is_crew g (wanted g st) y ≡ true) (sym shared) (manned_crew g (wanted g st) m))
 
-    fresh_unheld : (c : ℕ × ℕ) → fresh g st ≡ Some c → Has (words st.found) c.0 → ⊥
+    fresh_unheld : (c : ℕ × ℕ) → fresh g st ≡ Some c → ContainsAt (words st.found) c.0 → ⊥
     fresh_unheld c e h =
         let adds = fresh_some g st c e in
-        both_ways _ adds.unheld ((held_tells (wanted g st) st.found).1 (subst (λ d. Has (words st.found) d.0) adds.crew h))
+        both_ways _ adds.unheld ((held_tells (wanted g st) st.found).1 (subst (λ d. ContainsAt (words st.found) d.0) adds.crew h))
 
     -- ---- one step while slots are taken
 
@@ -133,7 +133,7 @@ module _ (g : Grid) (proper : Proper g) (limit : ℕ) (st : Finding) (sound : So
         let e = wanted_slot g st l in
         let sofar = sound.early (omega arith) in
         sofar ∙ sym (ap (starter_words g) (add-one t) ∙ words_same g t (starts_none g t (λ f.
-        let r = words_from_slots g t (member_word g t) (subst (λ m. Has m (member_word g t)) sofar (subst (Has (words st.found)) e (fresh_none none (subst (λ w. 0 < w) (sym e) f.0)))) in
+        let r = words_from_slots g t (member_word g t) (subst (λ m. ContainsAt m (member_word g t)) sofar (subst (ContainsAt (words st.found)) e (fresh_none none (subst (λ w. 0 < w) (sym e) f.0)))) in
         f.1 r.0 r.1 r.2)))
 
     -- a slot that adds a crew starts its word
@@ -147,7 +147,7 @@ module _ (g : Grid) (proper : Proper g) (limit : ℕ) (st : Finding) (sound : So
         let first = (starts_tells g t).1 (
           subst (λ w. 0 < w) e adds.some_member,
           λ k lk same.
-              fresh_unheld c some (subst (Has (words st.found)) (same ∙ sym word) (subst (λ m. Has m (member_word g k)) (sym sofar) (slots_in_words g t k lk (subst (λ w. 0 < w) (sym (same ∙ sym e)) adds.some_member)))),
+              fresh_unheld c some (subst (ContainsAt (words st.found)) (same ∙ sym word) (subst (λ m. ContainsAt m (member_word g k)) (sym sofar) (slots_in_words g t k lk (subst (λ w. 0 < w) (sym (same ∙ sym e)) adds.some_member)))),
         ) in
         map_push (λ d. d.0) st.found c ∙ ap₂ (λ m w. m ++ w ∷ []) sofar word ∙ sym (ap (starter_words g) (add-one t) ∙ words_next g t first)
 
@@ -167,11 +167,11 @@ module _ (g : Grid) (proper : Proper g) (limit : ℕ) (st : Finding) (sound : So
       paired = λ k l some. ⊎_elim (λ e. this k l e some) (λ other. sound.paired k (omega arith) some) (cases_eq k (st.steps - g.slots));
     }
       where
-        this : (k : ℕ) → k < st.steps + 1 - g.slots → k ≡ st.steps - g.slots → 0 < met st.found (starters g) k → Has (words st.found) (met st.found (starters g) k)
+        this : (k : ℕ) → k < st.steps + 1 - g.slots → k ≡ st.steps - g.slots → 0 < met st.found (starters g) k → ContainsAt (words st.found) (met st.found (starters g) k)
         this k l e some =
             let past : g.slots ≤ st.steps = omega arith in
             let same : wanted g st ≡ met st.found (starters g) k = wanted_pair g st past ∙ ap (met st.found (starters g)) (sym e) in
-            subst (Has (words st.found)) same (fresh_none none (subst (λ w. 0 < w) (sym same) some))
+            subst (ContainsAt (words st.found)) same (fresh_none none (subst (λ w. 0 < w) (sym same) some))
 
     pub added_sound : (c : ℕ × ℕ) → fresh g st ≡ Some c → length st.found < limit → Sound g limit (stepped st (st.found ++ c ∷ []))
     added_sound c some room = record {
@@ -202,22 +202,22 @@ module _ (g : Grid) (proper : Proper g) (limit : ℕ) (st : Finding) (sound : So
         kept_pair : (k : ℕ) → g.slots ≤ st.steps → k < starters g * length st.found → met (st.found ++ c ∷ []) (starters g) k ≡ met st.found (starters g) k
         kept_pair k past within = met_push st.found c (starters g) k (pair_crew past k within) (pair_second past k within)
 
-        old : (k : ℕ) → k < st.steps - g.slots → 0 < met (st.found ++ c ∷ []) (starters g) k → Has (words (st.found ++ c ∷ [])) (met (st.found ++ c ∷ []) (starters g) k)
+        old : (k : ℕ) → k < st.steps - g.slots → 0 < met (st.found ++ c ∷ []) (starters g) k → ContainsAt (words (st.found ++ c ∷ [])) (met (st.found ++ c ∷ []) (starters g) k)
         old k l some-met =
             let past : g.slots ≤ st.steps = omega arith in
             let b = this_pair past in
             let same = kept_pair k past (omega arith) in
-            subst (λ m. Has m (met (st.found ++ c ∷ []) (starters g) k)) (sym pushed)
+            subst (λ m. ContainsAt m (met (st.found ++ c ∷ []) (starters g) k)) (sym pushed)
             (has_append_left (words st.found) (c.0 ∷ []) (met (st.found ++ c ∷ []) (starters g) k)
-            (subst (Has (words st.found)) (sym same) (sound.paired k l (subst (λ w. 0 < w) same some-met))))
+            (subst (ContainsAt (words st.found)) (sym same) (sound.paired k l (subst (λ w. 0 < w) same some-met))))
 
-        this : (k : ℕ) → k < st.steps + 1 - g.slots → k ≡ st.steps - g.slots → Has (words (st.found ++ c ∷ [])) (met (st.found ++ c ∷ []) (starters g) k)
+        this : (k : ℕ) → k < st.steps + 1 - g.slots → k ≡ st.steps - g.slots → ContainsAt (words (st.found ++ c ∷ [])) (met (st.found ++ c ∷ []) (starters g) k)
         this k l e =
             let past : g.slots ≤ st.steps = omega arith in
             let b = this_pair past in
             let adds = fresh_some g st c some in
             let same : met (st.found ++ c ∷ []) (starters g) k ≡ c.0 = kept_pair k past (omega arith) ∙ ap (met st.found (starters g)) e ∙ sym (wanted_pair g st past) ∙ sym (ap (λ d. d.0) adds.crew) in
-            subst (λ m. Has m (met (st.found ++ c ∷ []) (starters g) k)) (sym pushed) (subst (Has (words st.found ++ c.0 ∷ [])) (sym same) (has_push (words st.found) c.0))
+            subst (λ m. ContainsAt m (met (st.found ++ c ∷ []) (starters g) k)) (sym pushed) (subst (ContainsAt (words st.found ++ c.0 ∷ [])) (sym same) (has_push (words st.found) c.0))
 
   pub step_sound : Sound g limit (after_step g limit st)
   step_sound = ⊎_elim (λ over. subst (Sound g limit) (sym (done_after g st limit over)) sound) (λ unfinished. go unfinished (fresh g st) refl) (cases_Bool (finished g st))

@@ -1,6 +1,6 @@
 -- The starters: which slots start a word, and how many words they are. Assumes nothing.
 use Rattle.std.proofs.Common.{◌≡◌, ℕ, zero, suc, ◌+◌, ◌<◌, ◌≤◌, Bool, true, false, not, eqb, ltb, [], ◌∷◌, ◌++◌, length, Decides, sym, refl, ap, ◌∙◌, subst, ⊎_elim, arith}
-use Rattle.std.specs.List.{ContainsAt as Has}
+use Rattle.std.specs.List.{ContainsAt}
 use Rattle.std.proofs.ByRecursion.{has_append_left, has_push, has_push_cases}
 use Rattle.std.proofs.lemmas.List.{length_push}
 use Rattle.std.proofs.lemmas.Bool.{and_cases, both_ways, cases_Bool, cases_eq, cond-true, cond-false, eqb-true, lt-ltb, not-false}
@@ -53,14 +53,14 @@ unfolding starter_words
 words_same g n h = cond-false (starts g n) _ _ h
 
 -- each word is that of a slot
-pub words_from_slots : (g : Grid) (n x : ℕ) → Has (starter_words g n) x → (k : ℕ) × (k < n) × (member_word g k ≡ x)
+pub words_from_slots : (g : Grid) (n x : ℕ) → ContainsAt (starter_words g n) x → (k : ℕ) × (k < n) × (member_word g k ≡ x)
 unfolding starter_words
 words_from_slots g zero x h = absurd (has_none x h)
 words_from_slots g (suc n) x h =
-    let sofar : Has (starter_words g n) x → (k : ℕ) × (k < suc n) × (member_word g k ≡ x) = λ t. let r = words_from_slots g n x t in (r.0, let l = r.1 in omega arith, r.2) in
+    let sofar : ContainsAt (starter_words g n) x → (k : ℕ) × (k < suc n) × (member_word g k ≡ x) = λ t. let r = words_from_slots g n x t in (r.0, let l = r.1 in omega arith, r.2) in
     ⊎_elim
-    (λ e. ⊎_elim sofar (λ s. (n, omega arith, s)) (has_push_cases (starter_words g n) (member_word g n) x (subst (λ m. Has m x) (words_next g n e) h)))
-    (λ e. sofar (subst (λ m. Has m x) (words_same g n e) h))
+    (λ e. ⊎_elim sofar (λ s. (n, omega arith, s)) (has_push_cases (starter_words g n) (member_word g n) x (subst (λ m. ContainsAt m x) (words_next g n e) h)))
+    (λ e. sofar (subst (λ m. ContainsAt m x) (words_same g n e) h))
     (cases_Bool (starts g n))
 
 every_fails : (f : ℕ → Bool) (n : ℕ) → every f n ≡ false → (k : ℕ) × (k < n) × (f k ≡ false)
@@ -78,26 +78,26 @@ not_first g n some h =
     (λ e. let r = every_fails _ n e in (r.0, r.1, eqb-true (member_word g r.0) (member_word g n) (not-false _ r.2)))
     (and_cases (ltb 0 (member_word g n)) (every (λ k. not (eqb (member_word g k) (member_word g n))) n) h)
 
-module _ (g : Grid) (n : ℕ) (sofar : (k : ℕ) → k < n → 0 < member_word g k → Has (starter_words g n) (member_word g k)) where
-  later : (k : ℕ) → k < n → 0 < member_word g k → Has (starter_words g (suc n)) (member_word g k)
+module _ (g : Grid) (n : ℕ) (sofar : (k : ℕ) → k < n → 0 < member_word g k → ContainsAt (starter_words g n) (member_word g k)) where
+  later : (k : ℕ) → k < n → 0 < member_word g k → ContainsAt (starter_words g (suc n)) (member_word g k)
   later k l some =
       ⊎_elim
-      (λ e. subst (λ m. Has m (member_word g k)) (sym (words_next g n e)) (has_append_left (starter_words g n) (member_word g n ∷ []) (member_word g k) (sofar k l some)))
-      (λ e. subst (λ m. Has m (member_word g k)) (sym (words_same g n e)) (sofar k l some))
+      (λ e. subst (λ m. ContainsAt m (member_word g k)) (sym (words_next g n e)) (has_append_left (starter_words g n) (member_word g n ∷ []) (member_word g k) (sofar k l some)))
+      (λ e. subst (λ m. ContainsAt m (member_word g k)) (sym (words_same g n e)) (sofar k l some))
       (cases_Bool (starts g n))
 
-  last : 0 < member_word g n → Has (starter_words g (suc n)) (member_word g n)
+  last : 0 < member_word g n → ContainsAt (starter_words g (suc n)) (member_word g n)
   last some =
       ⊎_elim
-      (λ e. subst (λ m. Has m (member_word g n)) (sym (words_next g n e)) (has_push (starter_words g n) (member_word g n)))
-      (λ e. let r = not_first g n some e in subst (Has (starter_words g (suc n))) r.2 (later r.0 r.1 (subst (λ w. 0 < w) (sym r.2) some)))
+      (λ e. subst (λ m. ContainsAt m (member_word g n)) (sym (words_next g n e)) (has_push (starter_words g n) (member_word g n)))
+      (λ e. let r = not_first g n some e in subst (ContainsAt (starter_words g (suc n))) r.2 (later r.0 r.1 (subst (λ w. 0 < w) (sym r.2) some)))
       (cases_Bool (starts g n))
 
-  one_slot_more : (k : ℕ) → k < suc n → 0 < member_word g k → Has (starter_words g (suc n)) (member_word g k)
+  one_slot_more : (k : ℕ) → k < suc n → 0 < member_word g k → ContainsAt (starter_words g (suc n)) (member_word g k)
   one_slot_more k l some =
-      ⊎_elim (λ e. subst (λ j. Has (starter_words g (suc n)) (member_word g j)) (sym e) (last (subst (λ j. 0 < member_word g j) e some))) (λ e. later k (omega arith) some) (cases_eq k n)
+      ⊎_elim (λ e. subst (λ j. ContainsAt (starter_words g (suc n)) (member_word g j)) (sym e) (last (subst (λ j. 0 < member_word g j) e some))) (λ e. later k (omega arith) some) (cases_eq k n)
 
 -- and the members of every slot that has some are among them
-pub slots_in_words : (g : Grid) (n k : ℕ) → k < n → 0 < member_word g k → Has (starter_words g n) (member_word g k)
+pub slots_in_words : (g : Grid) (n k : ℕ) → k < n → 0 < member_word g k → ContainsAt (starter_words g n) (member_word g k)
 slots_in_words g zero k l some = absurd (omega arith)
 slots_in_words g (suc n) k l some = one_slot_more g n (slots_in_words g n) k l some

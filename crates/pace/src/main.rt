@@ -1,4 +1,6 @@
 // Walks many crews of a table of full size, so that the time of one `next` can be taken from outside: `time target/bin/pace`.
+#![tactic(auto)]
+
 use anyhow::anyhow;
 use finders::limit::Limit;
 use rosters::bit_roster::BitRoster;

@@ -1,7 +1,7 @@
 -- The lines that are printed, and what printing one does to a buffer. Assumes nothing.
 use Rattle.std.specs.Prelude.{◌≡◌, ℕ, zero, suc, ◌^◌, ◌<◌, true, cond, List, [], ◌∷◌, ◌++◌, length, drop, Ok, Err, decimal, Result, nat_le, nat_lt}
 use Rattle.std.specs.Str.Parse.{IsNumeral, digits_value}
-use Rattle.std.specs.List.{ContainsAt as Has}
+use Rattle.std.specs.List.{ContainsAt}
 use Rattle.words.specs.Bits.{bit}
 use Rattle.tables.specs.Walk.{Increasing}
 use Rattle.texts.specs.Refusals.{cause_number}
@@ -52,7 +52,7 @@ after_print line buffer = cond (nat_le (length line) (length buffer)) (line ++ d
 
 -- the numbers of a word are those below n that it holds, each once and in order, and decimal digits read back as the number
 pub record PrintLaws : Type 0 where
-  pub only_held : (w n i : ℕ) → Has (numbers w n) i → (i < n) × (bit w i ≡ true)
-  pub every_held : (w n i : ℕ) → i < n → bit w i ≡ true → Has (numbers w n) i
+  pub only_held : (w n i : ℕ) → ContainsAt (numbers w n) i → (i < n) × (bit w i ≡ true)
+  pub every_held : (w n i : ℕ) → i < n → bit w i ≡ true → ContainsAt (numbers w n) i
   pub in_order : (w n : ℕ) → Increasing nat_lt (numbers w n)
   pub reads_back : (n : ℕ) → n < 2 ^ 64 → IsNumeral 10 (decimal n) × (digits_value 10 (decimal n) ≡ n)

@@ -1,7 +1,7 @@
 -- Whole runs of steps: the rule as it is told stands at each state, and what is found when the steps end. Assumes nothing.
 use Rattle.std.proofs.Common.{◌≡◌, ℕ, ◌+◌, ◌-◌, ◌*◌, ◌<◌, ◌≤◌, true, false, length, get_or, is_some, Some, None, Ok, Err, Decides, Option, sym, refl, ap, ◌∙◌, subst, ⊎_elim, add-one, arith}
 use lib.ListN.{length-map}
-use Rattle.std.specs.List.{ContainsAt as Has}
+use Rattle.std.specs.List.{ContainsAt}
 use Rattle.std.proofs.ByRecursion.{all-has}
 use Rattle.std.proofs.lemmas.List.{take-map, get_or_default}
 use Rattle.std.proofs.lemmas.Bool.{both_ways, cond-true, cond-false, le-leb, lt-leb}
@@ -76,7 +76,7 @@ module _ (g : Grid) (proper : Proper g) (limit : ℕ) (st : Finding) (rule : st 
       sound.once i j (omega arith) (omega arith)
       (at_words F i ∙ ap (λ c. c.0) (get_or_default F i (0, 0) d hi ∙ e ∙ get_or_default F j d (0, 0) hj) ∙ sym (at_words F j))
 
-  only : (x y : ℕ) → Has st.found (x, y) → is_crew g x y ≡ true
+  only : (x y : ℕ) → ContainsAt st.found (x, y) → is_crew g x y ≡ true
   only x y h = all-has (λ c. is_crew g c.0 c.1 ≡ true) st.found (x, y) sound.only_crews h
 
   done_all : finished g st ≡ true → FoundAll g limit st (Ok tt)

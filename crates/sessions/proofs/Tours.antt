@@ -1,6 +1,6 @@
 -- Askings in turn give a list from its first entry on, and then none. Assumes nothing.
 use Rattle.std.proofs.Common.{◌≡◌, ℕ, zero, suc, ◌+◌, ◌<◌, ◌≤◌, List, [], ◌∷◌, ◌++◌, length, get_or, drop, Some, None, Option, sym, refl, ap, ◌∙◌, subst, ⊎_elim, zero-le, le_of_suc-le-suc, not-suc-le-zero, add-one}
-use Rattle.std.specs.List.{ContainsAt as Has}
+use Rattle.std.specs.List.{ContainsAt}
 use Rattle.tables.specs.Crews.{crews}
 use Rattle.tables.specs.Firsts.{first, rest}
 use Rattle.tables.specs.Grid.{Grid}
@@ -45,12 +45,12 @@ module _ {A : Type 0} where
   in_turn_past (suc n) (x ∷ l) zero h i = absurd (not-suc-le-zero i)
   in_turn_past (suc n) (x ∷ l) (suc k) h i = in_turn_past n l k (le_of_suc-le-suc h) (le_of_suc-le-suc i)
 
-  in_turn_has : (n : ℕ) (l : List A) (x : A) → length l ≤ n → Has l x → Has (in_turn n l) (Some x)
+  in_turn_has : (n : ℕ) (l : List A) (x : A) → length l ≤ n → ContainsAt l x → ContainsAt (in_turn n l) (Some x)
   in_turn_has n [] x long h = absurd (has_none x h)
   in_turn_has zero (y ∷ l) x long h = absurd (not-suc-le-zero long)
   in_turn_has (suc n) (y ∷ l) x long h =
       ⊎_elim
-      (λ e. subst (λ z. Has (Some y ∷ in_turn n l) (Some z)) e (has_first (Some y) (in_turn n l)))
+      (λ e. subst (λ z. ContainsAt (Some y ∷ in_turn n l) (Some z)) e (has_first (Some y) (in_turn n l)))
       (λ later. has_later (Some y) (Some x) (in_turn n l) (in_turn_has n l x (le_of_suc-le-suc long) later))
       (has_cases y x l h)
 

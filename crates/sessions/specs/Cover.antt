@@ -1,7 +1,7 @@
 -- What cover answers. Assumes nothing.
 use Rattle.std.specs.Prelude.{◌≡◌, ℕ, true, false, cond, List, Some, None, Ok, Err, Option, Result, nat_lt}
 use Rattle.std.specs.Option.{option_map}
-use Rattle.std.specs.List.{ContainsAt as Has}
+use Rattle.std.specs.List.{ContainsAt}
 use Rattle.tables.specs.Grid.{Grid}
 use Rattle.tables.specs.Sides.{sides}
 use Rattle.tables.specs.declared.crew.Crew.{Crew}
@@ -20,6 +20,6 @@ cover_answer g l i j = cond (nat_lt i g.members) (cond (nat_lt j g.slots) (Ok (c
 
 -- a crew that is given was found and has member i and slot j; where none is given, no found crew has them
 abbrev pub GivesCover : List (ℕ × ℕ) → ℕ → ℕ → Result (Option (ℕ × ℕ)) PlaceRefusal → Type 0
-GivesCover l i j (Ok (Some c)) = Has l c × (covers i j c ≡ true)
-GivesCover l i j (Ok None) = (c : ℕ × ℕ) → Has l c → covers i j c ≡ false
+GivesCover l i j (Ok (Some c)) = ContainsAt l c × (covers i j c ≡ true)
+GivesCover l i j (Ok None) = (c : ℕ × ℕ) → ContainsAt l c → covers i j c ≡ false
 GivesCover l i j (Err e) = Unit {0}

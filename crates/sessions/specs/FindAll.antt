@@ -1,6 +1,6 @@
 -- What the finder's steps come to from the beginning on: the rule as it is told, and what is found in all. Assumes nothing.
 use Rattle.std.specs.Prelude.{◌≡◌, ℕ, ◌+◌, ◌-◌, ◌*◌, ◌<◌, ◌≤◌, true, false, cond, map, length, take, is_some, Ok, Err, Decides, Result, nat_le, slice_index_or}
-use Rattle.std.specs.List.{ContainsAt as Has}
+use Rattle.std.specs.List.{ContainsAt}
 use Rattle.tables.specs.Crews.{is_crew, crews}
 use Rattle.tables.specs.Grid.{Grid}
 use Rattle.finders.specs.Finder.{Finding, starter_words, starters, wanted, finished, fresh, reached}
@@ -28,12 +28,12 @@ pub record FoundAll (g : Grid) (limit : ℕ) (st : Finding) (answer : Result (Un
   -- and these were no more than there are slots, and pairs of a found crew and a starter
   pub steps_told : st.steps ≤ g.slots + starters g * length st.found
   -- what is found are crews, and none twice
-  pub only_crews : (x y : ℕ) → Has st.found (x, y) → is_crew g x y ≡ true
+  pub only_crews : (x y : ℕ) → ContainsAt st.found (x, y) → is_crew g x y ≡ true
   pub each_once : (i j : ℕ) (d : ℕ × ℕ) → i < length st.found → j < length st.found → slice_index_or st.found i d ≡ slice_index_or st.found j d → i ≡ j
   -- the steps end with done just where the limit admits all crews, and are refused otherwise
   pub answered : answer ≡ cond (nat_le (length (crews g)) limit) (Ok tt) (Err Full)
   -- done says that every crew is found
-  pub every_crew : answer ≡ Ok tt → (x y : ℕ) → is_crew g x y ≡ true → Has st.found (x, y)
+  pub every_crew : answer ≡ Ok tt → (x y : ℕ) → is_crew g x y ≡ true → ContainsAt st.found (x, y)
   pub as_many : answer ≡ Ok tt → length st.found ≡ length (crews g)
   -- a refusal says that as many crews are found as the limit admits
   pub full : answer ≡ Err Full → length st.found ≡ limit

@@ -1,6 +1,6 @@
 -- The crews of a grid as facts, and that they are all listed, in crew order. Assumes nothing.
 use Rattle.std.proofs.Common.{◌≡◌, ℕ, zero, suc, ◌+◌, ◌*◌, ◌/◌, ◌%◌, ◌^◌, ◌<◌, ◌≤◌, true, ◌&&◌, eqb, ltb, List, [], ◌∷◌, map, length, get_or, Decides, sym, refl, ◌∙◌, subst, ⊎_elim, le_of_suc-le-suc, arith}
-use Rattle.std.specs.List.{ContainsAt as Has, AllByRecursion as All}
+use Rattle.std.specs.List.{ContainsAt, AllByRecursion}
 use Rattle.std.proofs.lemmas.Bool.Decides.{same_from_decides}
 use Rattle.std.proofs.ByRecursion.{All-append, All-map, All-weaker, all-has, has_append_left, has_append_right}
 use Rattle.std.proofs.lemmas.Bool.{and_parts, and_from, cases_eq, lt-ltb, ltb-true, eqb-true, eq-eqb}
@@ -96,7 +96,7 @@ odd_below n w h = omega arith
 even_below : (n w : ℕ) → w < 2 ^ n → 2 * w < 2 ^ suc n
 even_below n w h = omega arith
 
-pub all_words_below : (n : ℕ) → All (λ w. w < 2 ^ n) (all_words n)
+pub all_words_below : (n : ℕ) → AllByRecursion (λ w. w < 2 ^ n) (all_words n)
 unfolding all_words
 all_words_below zero = (omega arith, tt)
 all_words_below (suc n) =
@@ -104,22 +104,22 @@ all_words_below (suc n) =
     (All-map (λ w. w < 2 ^ suc n) (λ w. 1 + 2 * w) (all_words n) (All-weaker (λ w. w < 2 ^ n) (λ w. 1 + 2 * w < 2 ^ suc n) (odd_below n) (all_words n) (all_words_below n)))
     (All-map (λ w. w < 2 ^ suc n) (λ w. 2 * w) (all_words n) (All-weaker (λ w. w < 2 ^ n) (λ w. 2 * w < 2 ^ suc n) (even_below n) (all_words n) (all_words_below n)))
 
-pub has_all_words : (n w : ℕ) → w < 2 ^ n → Has (all_words n) w
+pub has_all_words : (n w : ℕ) → w < 2 ^ n → ContainsAt (all_words n) w
 unfolding all_words
-has_all_words zero w h = subst (λ z. Has (0 ∷ []) z) (omega arith) (has_first 0 [])
+has_all_words zero w h = subst (λ z. ContainsAt (0 ∷ []) z) (omega arith) (has_first 0 [])
 has_all_words (suc n) w h =
-    let there : Has (all_words n) (w / 2) = has_all_words n (w / 2) (omega arith) in
+    let there : ContainsAt (all_words n) (w / 2) = has_all_words n (w / 2) (omega arith) in
     ⊎_elim
-    (λ e. has_append_right (map (λ w. 1 + 2 * w) (all_words n)) (map (λ w. 2 * w) (all_words n)) w (subst (λ z. Has (map (λ w. 2 * w) (all_words n)) z) (omega arith) (has_map (λ w. 2 * w) (w / 2) (all_words n) there)))
-    (λ e. has_append_left (map (λ w. 1 + 2 * w) (all_words n)) (map (λ w. 2 * w) (all_words n)) w (subst (λ z. Has (map (λ w. 1 + 2 * w) (all_words n)) z) (omega arith) (has_map (λ w. 1 + 2 * w) (w / 2) (all_words n) there)))
+    (λ e. has_append_right (map (λ w. 1 + 2 * w) (all_words n)) (map (λ w. 2 * w) (all_words n)) w (subst (λ z. ContainsAt (map (λ w. 2 * w) (all_words n)) z) (omega arith) (has_map (λ w. 2 * w) (w / 2) (all_words n) there)))
+    (λ e. has_append_left (map (λ w. 1 + 2 * w) (all_words n)) (map (λ w. 2 * w) (all_words n)) w (subst (λ z. ContainsAt (map (λ w. 1 + 2 * w) (all_words n)) z) (omega arith) (has_map (λ w. 1 + 2 * w) (w / 2) (all_words n) there)))
     (cases_eq (w % 2) 0)
 
 -- every word with number 0 is earlier than every word without
-front_first : (k : ℕ) (xs ys : List ℕ) → All (λ x. All (λ y. earlier (suc k) x y ≡ true) (map (λ w. 2 * w) ys)) (map (λ w. 1 + 2 * w) xs)
+front_first : (k : ℕ) (xs ys : List ℕ) → AllByRecursion (λ x. AllByRecursion (λ y. earlier (suc k) x y ≡ true) (map (λ w. 2 * w) ys)) (map (λ w. 1 + 2 * w) xs)
 front_first k [] ys = tt
 front_first k (x ∷ xs) ys = (each ys, front_first k xs ys)
   where
-    each : (ys : List ℕ) → All (λ y. earlier (suc k) (1 + 2 * x) y ≡ true) (map (λ w. 2 * w) ys)
+    each : (ys : List ℕ) → AllByRecursion (λ y. earlier (suc k) (1 + 2 * x) y ≡ true) (map (λ w. 2 * w) ys)
     each [] = tt
     each (y ∷ ys) = (earlier_front k x y, each ys)
 
@@ -143,11 +143,11 @@ pub crew_words_increasing : (g : Grid) → Proper g → Increasing before (crew_
 unfolding crew_words before
 crew_words_increasing g proper = increasing_kept (earlier 64) (manned g) (all_words g.members) (all_words_increasing g.members 64 proper.members_fit)
 
-pub has_crew_words : (g : Grid) (x : ℕ) → manned g x ≡ true → Has (crew_words g) x
+pub has_crew_words : (g : Grid) (x : ℕ) → manned g x ≡ true → ContainsAt (crew_words g) x
 unfolding crew_words
 has_crew_words g x h = has_kept (manned g) x (all_words g.members) (has_all_words g.members x ((manned_tells g x).0 h).members_only) h
 
-pub crew_words_only : (g : Grid) → All (λ x. manned g x ≡ true) (crew_words g)
+pub crew_words_only : (g : Grid) → AllByRecursion (λ x. manned g x ≡ true) (crew_words g)
 unfolding crew_words
 crew_words_only g = kept_passes (manned g) (all_words g.members)
 
@@ -155,12 +155,12 @@ pub crews_increasing : (g : Grid) → Proper g → Increasing crew_before (crews
 unfolding crews
 crews_increasing g proper = increasing_map crew_before before (λ x. (x, common_slots g x)) (λ a b. refl) (crew_words g) (crew_words_increasing g proper)
 
-pub crews_have : (g : Grid) (x y : ℕ) → is_crew g x y ≡ true → Has (crews g) (x, y)
+pub crews_have : (g : Grid) (x y : ℕ) → is_crew g x y ≡ true → ContainsAt (crews g) (x, y)
 unfolding crews
 crews_have g x y h =
-    subst (λ z. Has (crews g) (x, z)) (sym (crew_slots g x y h)) (has_map (λ x. (x, common_slots g x)) x (crew_words g) (has_crew_words g x (crew_is_manned g x y h)))
+    subst (λ z. ContainsAt (crews g) (x, z)) (sym (crew_slots g x y h)) (has_map (λ x. (x, common_slots g x)) x (crew_words g) (has_crew_words g x (crew_is_manned g x y h)))
 
-pub crews_only : (g : Grid) → All (λ c. is_crew g c.0 c.1 ≡ true) (crews g)
+pub crews_only : (g : Grid) → AllByRecursion (λ c. is_crew g c.0 c.1 ≡ true) (crews g)
 unfolding crews
 crews_only g =
     All-map (λ c. is_crew g c.0 c.1 ≡ true) (λ x. (x, common_slots g x)) (crew_words g)

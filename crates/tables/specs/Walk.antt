@@ -1,6 +1,6 @@
 -- What a list of all crews in crew order is, and the search for the first crew from a word on. Assumes nothing.
 use Rattle.std.specs.Prelude.{◌≡◌, ℕ, zero, suc, ◌%◌, ◌^◌, ◌<◌, ◌≤◌, Bool, true, false, cond, not, ◌&&◌, ◌||◌, List, [], ◌∷◌, length, ◌==◌, bit_and, bit_or, nat_lt, slice_index_or}
-use Rattle.std.specs.List.{ContainsAt as Has, AllByRecursion as All}
+use Rattle.std.specs.List.{ContainsAt, AllByRecursion}
 use Rattle.words.specs.Bits.{bit, every}
 use Rattle.words.specs.Order.{before}
 use Rattle.tables.specs.Grid.{Grid, slot_word, shared_slots}
@@ -9,7 +9,7 @@ use Rattle.tables.specs.Crews.{is_crew}
 -- each line of the list stands in relation r to every later one
 abbrev pub Increasing : {A : Type 0} → (A → A → Bool) → List A → Type 0
 Increasing r [] = Unit {0}
-Increasing r (x ∷ xs) = All (λ y. r x y ≡ true) xs × Increasing r xs
+Increasing r (x ∷ xs) = AllByRecursion (λ y. r x y ≡ true) xs × Increasing r xs
 
 -- the crew order: by the member words
 abbrev pub crew_before : ℕ × ℕ → ℕ × ℕ → Bool
@@ -19,8 +19,8 @@ crew_before c d = before c.0 d.0
 pub record ListsTheCrews (g : Grid) (l : List (ℕ × ℕ)) : Type 0 where
   pub increasing : Increasing crew_before l
   pub each_once : (i j : ℕ) (d : ℕ × ℕ) → i < length l → j < length l → slice_index_or l i d ≡ slice_index_or l j d → i ≡ j
-  pub every_crew : (x y : ℕ) → is_crew g x y ≡ true → Has l (x, y)
-  pub only_crews : (x y : ℕ) → Has l (x, y) → is_crew g x y ≡ true
+  pub every_crew : (x y : ℕ) → is_crew g x y ≡ true → ContainsAt l (x, y)
+  pub only_crews : (x y : ℕ) → ContainsAt l (x, y) → is_crew g x y ≡ true
 
 -- (x, y) is the first crew from word p on
 pub record FirstFrom (g : Grid) (p x y : ℕ) : Type 0 where

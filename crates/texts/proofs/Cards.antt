@@ -4,7 +4,7 @@ use Rattle.tables.specs.Sheet.{Sheet, marking, clearing}
 use Rattle.tables.specs.declared.refusals.RosterRefusal.{RosterRefusal}
 use Rattle.texts.specs.Cards.{size_told, first_size, putting, after_put, roster_cause, go_on, applied, Applied}
 use Rattle.texts.specs.Forms.{Said, form, size_line, free_line, off_line, blank_line, no_form, taken_apart}
-use Rattle.texts.specs.Lines.{line, lines, lines_from}
+use Rattle.texts.specs.Lines.{lines, lines_from}
 use Rattle.texts.specs.Splits.{up_to, behind}
 use Rattle.texts.specs.declared.refusals.Cause.{Cause}
 use Rattle.texts.proofs.Lines.{lines_left, first_line, lines_whole}

@@ -1,6 +1,6 @@
 -- What the lines of a text keep to. Assumes nothing.
 use Rattle.std.proofs.Common.{◌≡◌, ℕ, suc, Bool, true, false, cond, eqb, List, [], ◌∷◌, sym, refl, ap, ◌∙◌, subst, arith}
-use Rattle.std.specs.List.{flat_map, AllByRecursion as All}
+use Rattle.std.specs.List.{flat_map, AllByRecursion}
 use Rattle.std.proofs.lemmas.Bool.{eqb-true, eqb-false}
 use Rattle.texts.specs.Lines.{Line, line, begun, lines_from, lines, ended_line, finished, Follow, LineLaws}
 
@@ -42,15 +42,15 @@ whole_from k (b ∷ bs) = whole_step k b bs (eqb b 10) refl (whole_from (suc k) 
 
 -- no byte of the line is byte 10
 abbrev Unbroken : Line → Type 0
-Unbroken l = All (λ b. b ≡ 10 → ⊥) l.bytes
+Unbroken l = AllByRecursion (λ b. b ≡ 10 → ⊥) l.bytes
 
-unbroken_step : (k b : ℕ) (ls : List Line) (t : Bool) → eqb b 10 ≡ t → All Unbroken ls → All Unbroken (cond t (line k [] ∷ ls) (begun k b ls))
+unbroken_step : (k b : ℕ) (ls : List Line) (t : Bool) → eqb b 10 ≡ t → AllByRecursion Unbroken ls → AllByRecursion Unbroken (cond t (line k [] ∷ ls) (begun k b ls))
 unfolding begun
 unbroken_step k b ls true is rest = (tt, rest)
 unbroken_step k b [] false is rest = ((eqb-false b 10 is, tt), tt)
 unbroken_step k b (l ∷ ls) false is rest = ((eqb-false b 10 is, rest.0), rest.1)
 
-unbroken_from : (k : ℕ) (bs : List ℕ) → All Unbroken (lines_from k bs)
+unbroken_from : (k : ℕ) (bs : List ℕ) → AllByRecursion Unbroken (lines_from k bs)
 unfolding lines_from
 unbroken_from k [] = tt
 unbroken_from k (b ∷ bs) = unbroken_step k b (lines_from (suc k) bs) (eqb b 10) refl (unbroken_from (suc k) bs)

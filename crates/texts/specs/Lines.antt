@@ -1,6 +1,6 @@
 -- The lines of a text: each ends with byte 10, which the last may lack, and none begins behind the last byte 10. Assumes nothing.
 use Rattle.std.specs.Prelude.{◌≡◌, ℕ, suc, ◌+◌, cond, List, [], ◌∷◌, ◌++◌, length, ◌==◌, ◌≢◌}
-use Rattle.std.specs.List.{flat_map, AllByRecursion as All}
+use Rattle.std.specs.List.{flat_map, AllByRecursion}
 
 -- where a line begins in its text, and its bytes without byte 10
 pub record Line : Type 0 where
@@ -45,5 +45,5 @@ Follow k (l ∷ ls) = (l.start ≡ k) × Follow (k + suc (length l.bytes)) ls
 -- what the lines of a text keep to: with a byte 10 behind each they are the text, none holds a byte 10, and they follow one another
 pub record LineLaws : Type 0 where
   pub whole : (text : List ℕ) → flat_map ended_line (lines text) ≡ finished text
-  pub unbroken : (text : List ℕ) → All (λ l. All (λ b. b ≢ 10) l.bytes) (lines text)
+  pub unbroken : (text : List ℕ) → AllByRecursion (λ l. AllByRecursion (λ b. b ≢ 10) l.bytes) (lines text)
   pub places : (text : List ℕ) → Follow 0 (lines text)

@@ -1,4 +1,5 @@
 // Trial runs of the crates below, compared with plain models that share no code with them.
+#![tactic(auto)]
 
 mod finder;
 mod generator;

@@ -1,4 +1,4 @@
-use Rattle.std.proofs.Common.{◌≡◌, ◌+◌, ◌<◌, [], ◌∷◌, ◌++◌, map, length, take, drop, set, sym, refl, ap, ◌∙◌, ap₂, le_antisymm, add-one, arith, take_all, take-suc-set}
+use Rattle.std.proofs.Common.{◌≡◌, ◌<◌, [], ◌∷◌, ◌++◌, map, length, take, drop, set, sym, refl, ap, ◌∙◌, ap₂, le_antisymm, add-one, arith, take_all, take-suc-set}
 use mathlib.Core.List.{map-append}
 use Rattle.std.specs.Option.{option_map}
 use Rattle.tables.specs.Crews.{ahead, crews}

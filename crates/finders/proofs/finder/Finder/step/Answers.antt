@@ -1,7 +1,7 @@
 use Rattle.std.proofs.Common.{◌+◌, ◌*◌, ◌<◌, ◌≤◌, length, sym, refl, ap, ◌∙◌, arith}
 use Rattle.std.proofs.lemmas.List.{length_push}
 use Rattle.tables.specs.Sides.{sides}
-use Rattle.finders.specs.Finder.{finding, fresh, stepped}
+use Rattle.finders.specs.Finder.{finding, stepped}
 use Rattle.finders.specs.Found.{found_crews, has_members}
 use Rattle.finders.proofs.Places.{found_fits}
 use Rattle.finders.proofs.Rule.{steps_few, fresh_some, done_answer, done_after, idle_answer, idle_after, full_answer, full_after, added_answer, added_after}
