@@ -2,6 +2,7 @@
 #![tactic(auto)]
 
 mod finder;
+mod five_tables;
 mod generator;
 mod kinds;
 mod model;
@@ -9,7 +10,6 @@ mod opening;
 mod places;
 mod plain;
 mod playing;
-mod tables;
 mod walk;
 
 fn main(rt: HostRuntime) -> anyhow::Result<()> {
@@ -17,7 +17,7 @@ fn main(rt: HostRuntime) -> anyhow::Result<()> {
 }
 
 fn run(rt: &HostRuntime) -> anyhow::Result<()> {
-    tables::run(rt)?;
+    five_tables::run(rt)?;
     walk::run(rt)?;
     finder::run(rt)?;
     places::run(rt)

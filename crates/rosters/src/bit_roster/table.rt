@@ -1,6 +1,6 @@
 // The bit roster as a table.
 ghost use Rattle.rosters.specs.Rosters.{bit_grid};
-ghost use Rattle.std.proofs.Common.{rules, arith};
+ghost use Rattle.std.proofs.Common.{rules};
 
 use super::BitRoster;
 use tables::table::Table;
@@ -8,7 +8,7 @@ use tables::table::Table;
 impl Table for BitRoster {
     ghost grid = { bit_grid };
 
-    ghost proper = { first_of (Prim.search rules, Prim.grind (arith, Self.row.coded.inj)) };
+    ghost proper = { Prim.search rules };
 
     fn members(&self) -> u8 {
         self.size.members()

@@ -1,6 +1,6 @@
 // The list roster as a table: a word is gathered from the codes in use.
 ghost use Rattle.rosters.specs.Rosters.{list_grid};
-ghost use Rattle.std.proofs.Common.{rules, arith};
+ghost use Rattle.std.proofs.Common.{rules};
 
 use super::ListRoster;
 use tables::table::Table;
@@ -9,7 +9,7 @@ use words::sets::only;
 impl Table for ListRoster {
     ghost grid = { list_grid };
 
-    ghost proper = { first_of (Prim.search rules, Prim.grind (arith, Self.row.coded.inj)) };
+    ghost proper = { Prim.search rules };
 
     fn members(&self) -> u8 {
         self.size.members()
