@@ -16,13 +16,11 @@ push_text-requires-2 c =
 
 pub push_number-requires-2 : goal.push_number-requires-2
 push_number-requires-2 c =
-    let fit : c.args.fault.now.line < 2 ^ 64 = search rules in
-    omega (arith, twenty_digits c.from.result c.from.type_inv, twenty_digits c.args.fault.now.line fit, c.push_text.ensures.long, c.push_number.ensures.long, c.push_text-2.ensures.long, c.new-draft.ensures.long)
+    grind (arith, twenty_digits, c.from.type_inv, c.push_text.ensures.long, c.push_number.ensures.long, c.push_text-2.ensures.long, c.new-draft.ensures.long)
 
 pub push-requires : goal.push-requires
 push-requires c =
-    let fit : c.args.fault.now.line < 2 ^ 64 = search rules in
-    omega (arith, twenty_digits c.from.result c.from.type_inv, twenty_digits c.args.fault.now.line fit, c.push_text.ensures.long, c.push_number.ensures.long, c.push_text-2.ensures.long, c.push_number-2.ensures.long, c.new-draft.ensures.long)
+    grind (arith, twenty_digits, c.from.type_inv, c.push_text.ensures.long, c.push_number.ensures.long, c.push_text-2.ensures.long, c.push_number-2.ensures.long, c.new-draft.ensures.long)
 
 pub returns : goal.returns
 returns c =

@@ -1,4 +1,4 @@
-use Rattle.std.proofs.Common.{◌≡◌, true, is_ok, sym, refl, ap, ◌∙◌}
+use Rattle.std.proofs.Common.{◌≡◌, true, is_ok, sym, refl, ap, ◌∙◌, arith}
 use Rattle.std.proofs.lemmas.Bool.{both_ways}
 use Rattle.boards.specs.Lines.{take_answer}
 use Rattle.boards.proofs.Boards.{handed_on, take_some, take_done}
@@ -11,8 +11,7 @@ overflow_sub-self g c =
     let call = c.take_line-answer in
     let told = call.ensures.answer ∙ ap (λ ys. take_answer g.L.Line.order ys c.args.line.now) (handed_on memory board.used c.len-used.result c.len-used.ensures) in
     let ok : is_ok call.result ≡ true = sym c.if-is_ok.ensures.value in
-    take_some g.met.L.Line.lawful memory call.new.lines board.used c.len-used.result c.len-used.ensures call.auto.lines c.requires c.args.line.now
-    (ap is_ok (sym told) ∙ ok)
+    omega (arith, take_some g.met.L.Line.lawful memory call.new.lines board.used c.len-used.result c.len-used.ensures call.auto.lines c.requires c.args.line.now (ap is_ok (sym told) ∙ ok))
 
 pub returns-then-is_ok : goal.returns-then-is_ok
 returns-then-is_ok g c =

@@ -42,7 +42,7 @@ counted_now c =
     counted_mark r.size.members r.size.slots r.free r.rows _ c.args.member c.args.slot r.counted (member_below c) (slot_below c) (was c) (row_put c)
 
 pub overflow_sub-self : goal.overflow_sub-self
-overflow_sub-self c = (counted_now c).0
+overflow_sub-self c = omega (arith, (counted_now c).0)
 
 pub invariant_of-self : goal.invariant_of-self
 invariant_of-self c =
