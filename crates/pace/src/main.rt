@@ -1,4 +1,4 @@
-// Walks many crews of a table of full size, so that the time of one `next` can be taken from outside: `time target/bin/pace`.
+// Walks many crews of a table of full size, so that the time of one `next` can be taken from outside: `time out/pace`.
 #![tactic(auto)]
 
 use anyhow::anyhow;

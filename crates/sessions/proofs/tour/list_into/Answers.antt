@@ -28,8 +28,8 @@ loop-place-preserved g c =
     let k = c.loop-place.place-index in
     let within : k < length c.loop-place.places = omega arith in
     let now = ahead_now g (goal.at.loop-place-preserved g c).After-next in (
-      c.next.ensures.table ∙ inv.0,
-      c.next.ensures.finder ∙ inv.1,
+      cc,
+      cc,
       ap (λ t. ahead (g.T.Table.grid t) c.next.new.self.walk.position) (sym inv.0) ∙ c.next.ensures.ahead ∙ ap rest now ∙ sym (drop_more k (crews grid)),
       ap (λ n. map (option_map sides) (take n (set c.loop-place.places k c.next.result))) (add-one k)
           ∙ ap (map (option_map sides)) (take-suc-set c.loop-place.places k c.next.result within)
