@@ -1,6 +1,5 @@
 // A table over words that are lent to it, one for each member.
 ghost use Rattle.std.specs.Prelude.{◌≡◌};
-ghost use Rattle.std.proofs.Common.{arith};
 ghost use Rattle.views.specs.Lent.{lent_grid};
 ghost use Rattle.views.specs.Proper.{lent_proper};
 
@@ -29,7 +28,7 @@ impl<'a> WordTable<'a> {
 impl Table for WordTable<'_> {
     ghost grid = { λ t. lent_grid t.size.members t.size.slots t.words.now };
 
-    ghost proper = { λ t. lent_proper t.size.members t.size.slots t.words.now (Prim.omega arith) (Prim.omega arith) (Prim.omega arith) (Prim.omega arith) };
+    ghost proper = { λ t. lent_proper t.size.members t.size.slots t.words.now t.size.some_member t.size.members_fit t.size.some_slot t.size.slots_fit };
 
     fn members(&self) -> u8 {
         self.size.members()
