@@ -1,95 +1,92 @@
--- The lines in use of a board, and what becomes of them when the memory changes. Assumes nothing.
-use Rattle.std.proofs.Common.{◌≡◌, ℕ, suc, ◌+◌, ◌-◌, ◌<◌, ◌≤◌, min, Bool, true, false, cond, ltb, List, ◌++◌, length, take, drop, is_ok, Ok, Err, Ordering, sym, refl, ap, ◌∙◌, subst, add-one, arith}
-use Rattle.std.proofs.lemmas.List.{length-take-le, take_at}
+-- The lines on a board, and what becomes of them when one is put in or taken out. Assumes nothing.
+use Rattle.std.proofs.Common.{◌≡◌, ℕ, suc, ◌+◌, ◌-◌, ◌<◌, ◌≤◌, min, true, cond, ltb, List, ◌++◌, length, take, drop, is_ok, Ok, Err, Ordering, Equal, sym, ap, ◌∙◌, subst, add-one, arith}
+use Rattle.std.proofs.lemmas.List.{append_assoc, length-append, length-drop, length-take-le, take_at, take-take}
 use Rattle.std.proofs.lemmas.Slice.{drop-append-drop}
-use Rattle.std.proofs.lemmas.Bool.{cond-true, ltb-true, true≢false}
-use Rattle.boards.specs.declared.refusals.PutRefusal.{PutRefusal}
-use Rattle.boards.specs.declared.refusals.PutRefusal.TheVariants.{Full, Present}
-use Rattle.boards.specs.declared.refusals.TakeRefusal.{TakeRefusal}
-use Rattle.boards.specs.declared.refusals.TakeRefusal.TheVariants.{Absent}
-use Rattle.boards.specs.Orders.{Laws}
-use Rattle.boards.specs.Lines.{places, in_use, Increasing, on_board, with_line, without_line, put_answer, take_answer, after_put, after_take}
-use Rattle.boards.proofs.Edited.{with_increasing, without_increasing, length_with, length_without}
+use Rattle.std.proofs.lemmas.Bool.{cond-true, cond-false, lt-ltb}
+use Rattle.std.specs.List.{insert, remove}
+use Rattle.std.specs.Cmp.{IsTotalOrder}
+use Rattle.boards.specs.Lines.{places, in_use, Increasing, standing, with_line, without_line, put_answer, after_put, after_take}
+use Rattle.boards.proofs.Standing.{is_found, is_missed}
+use Rattle.boards.proofs.Edited.{with_split, without_split, with_increasing, without_increasing, length_with, length_without}
 
--- what an accepted line tells
-put_accepted : {L : Type 0} (order : L → L → Ordering) (xs : List L) (room : ℕ) (x : L) → is_ok (put_answer order xs room x) ≡ true → (on_board order xs x ≡ false) × (length xs < room)
-put_accepted order xs room x h = by_tests (on_board order xs x) (ltb (length xs) room) refl h
-  where
-    by_tests : (b t : Bool) → ltb (length xs) room ≡ t → is_ok {T = Unit {0}} {E = PutRefusal} (cond b (Err Present) (cond t (Ok tt) (Err Full))) ≡ true → (b ≡ false) × (length xs < room)
-    by_tests true t e k = absurd (true≢false (sym k))
-    by_tests false true e k = (refl, ltb-true (length xs) room e)
-    by_tests false false e k = absurd (true≢false (sym k))
+module _ {L : Type 0} (memory : List L) (used : ℕ) (within : used ≤ places memory) where
+  all_used : in_use memory used ≡ take used memory
+  all_used = let all : min used (places memory) ≡ used = omega arith in ap (λ n. take n memory) all
 
-take_accepted : {L : Type 0} (order : L → L → Ordering) (xs : List L) (x : L) → is_ok (take_answer order xs x) ≡ true → on_board order xs x ≡ true
-take_accepted order xs x h = by_test (on_board order xs x) h
-  where
-    by_test : (b : Bool) → is_ok {T = Unit {0}} {E = TakeRefusal} (cond b (Ok tt) (Err Absent)) ≡ true → b ≡ true
-    by_test true k = refl
-    by_test false k = k
+  pub length_in_use : length (in_use memory used) ≡ used
+  length_in_use = ap length all_used ∙ length-take-le used memory (omega arith)
 
--- ---- the lines in use, as a board hands them on
+  -- the first n of a memory of the same length are in use
+  pub kept : (front behind : List L) (n : ℕ) → length (front ++ behind) ≡ length memory → length front ≡ n → n ≤ places memory → in_use (front ++ behind) n ≡ front
+  kept front behind n same len room =
+      let all : min n (places (front ++ behind)) ≡ n = omega arith in
+      ap (λ k. take k (front ++ behind)) all ∙ take_at front behind n len
 
-module _ {L : Type 0} (memory : List L) (counted used : ℕ) (is : used ≡ length (in_use memory counted)) where
-  count_is : used ≡ min counted (places memory)
-  count_is = is ∙ length-take-le _ memory (omega arith)
+  whole : (front : List L) (n : ℕ) → n ≤ length memory → length front ≡ n → length (front ++ drop n memory) ≡ length memory
+  whole front n room len = length-append front (drop n memory) ∙ ap (λ k. k + length (drop n memory)) len ∙ (let d = length-drop n memory in omega arith)
 
-  pub used_within : used ≤ places memory
-  used_within = let e = count_is in omega arith
-
-  pub handed_on : take used memory ≡ in_use memory counted
-  handed_on = ap (λ n. take n memory) count_is
-
--- a new board has no lines
-pub none_in_use : {L : Type 0} (order : L → L → Ordering) (memory : List L) → Increasing order (in_use memory 0)
-unfolding Increasing
-none_in_use order memory = let none : min 0 (places memory) ≡ 0 = omega arith in rw none tt
-
--- ---- after a line was put in or taken out
-
--- what becomes of a board whose lines are now to be ys, the first n of the memory
-pub record Became {L : Type 0} (order : L → L → Ordering) (memory after : List L) (n : ℕ) (ys : List L) : Type 0 where
-  pub lines : in_use after n ≡ ys
+-- what becomes of a board whose memory had lines on it, where n of the memory are now to be used, and xs are to be on the board
+pub record Became {L : Type 0} (order : L → L → Ordering) (memory after : List L) (n : ℕ) (xs : List L) : Type 0 where
+  pub lines : in_use after n ≡ xs
   pub increasing : Increasing order (in_use after n)
+  pub within : n ≤ places after
   pub behind : drop 4096 after ≡ drop 4096 memory
 
-became : {L : Type 0} (order : L → L → Ordering) (memory after : List L) (n : ℕ) (ys : List L) → length after ≡ length memory → length ys ≡ n → n ≤ places memory
-    → after ≡ ys ++ drop n memory → Increasing order ys → Became order memory after n ys
-became order memory after n ys same_length len room e up =
-    let all : min n (places after) ≡ n = omega arith in
-    let held : in_use after n ≡ ys = ap (λ k. take k after) all ∙ ap (take n) e ∙ take_at ys (drop n memory) n len in
-    record {
-      lines = held;
-      increasing = subst (Increasing order) (sym held) up;
-      behind = ap (drop 4096) e ∙ drop-append-drop n memory ys 4096 (omega arith) len;
-    }
+module _ {L : Type 0} {order : L → L → Ordering} (total : IsTotalOrder order) (same : (x y : L) → order x y ≡ Equal → x ≡ y) (memory : List L) (used : ℕ) (within : used ≤ places memory)
+    (up : Increasing order (in_use memory used)) (x : L) (at : ℕ) where
+  -- the search told that x is not there and would stand at the place, and there is room
+  module _ (off : Err at ≡ standing order (in_use memory used) x) {rooms : ℕ} (places_are : rooms ≡ places memory) (free : used ≡ rooms → ⊥) where
+    room : used < places memory
+    room = omega arith
 
-module _ {L : Type 0} {order : L → L → Ordering} (laws : Laws order) (memory after : List L) (counted used : ℕ) (is : used ≡ length (in_use memory counted))
-    (same_length : length after ≡ length memory) (up : Increasing order (in_use memory counted)) (x : L) where
-  pub put_done : is_ok (put_answer order (in_use memory counted) (places memory) x) ≡ true
-      → after ≡ with_line order (take used memory) x ++ drop (suc used) memory
-      → Became order memory after (used + 1) (after_put order (in_use memory counted) (places memory) x)
-  put_done ok e =
-      let xs = in_use memory counted in
-      let told = put_accepted order xs (places memory) x ok in
-      let room : suc used ≤ places memory = let h = told.1 in omega arith in
-      let holds : after ≡ with_line order xs x ++ drop (suc used) memory = e ∙ ap (λ ys. with_line order ys x ++ drop (suc used) memory) (handed_on memory counted used is) in
-      rw (add-one used, cond-true (is_ok (put_answer order xs (places memory) x)) (with_line order xs x) xs ok)
-      (became order memory after (suc used) (with_line order xs x) same_length (length_with order xs x ∙ ap suc (sym is)) room holds (with_increasing laws xs x up told.0))
+    put_taken : Ok tt ≡ put_answer order (in_use memory used) (places memory) x
+    put_taken =
+        let n = length_in_use memory used within in
+        let room_left : ltb (length (in_use memory used)) (places memory) ≡ true = lt-ltb _ _ (omega arith) in
+        sym (cond-false _ _ _ (is_missed order (in_use memory used) x at off).0 ∙ cond-true _ _ _ room_left)
 
-  pub take_some : is_ok (take_answer order (in_use memory counted) x) ≡ true → 1 ≤ used
-  take_some ok =
-      let n = length_without order (in_use memory counted) x (take_accepted order (in_use memory counted) x ok) in
-      omega arith
+    pub put_done : (front : List L) → front ≡ insert (take (length (take (used + 1) memory) - 1) (take (used + 1) memory)) at x
+        → Became order memory (front ++ drop (used + 1) memory) (used + 1) (after_put order (in_use memory used) (places memory) x)
+    put_done front is =
+        let xs = in_use memory used in
+        let told = is_missed order xs x at off in
+        let one_less : length (take (used + 1) memory) - 1 ≡ used = let l = length-take-le (used + 1) memory (omega arith) in omega arith in
+        let old : take (length (take (used + 1) memory) - 1) (take (used + 1) memory) ≡ xs = rw one_less (take-take used (used + 1) memory (omega arith) ∙ sym (all_used memory used within)) in
+        let holds : front ≡ with_line order xs x = is ∙ ap (λ ys. insert ys at x) old ∙ ap (λ k. insert xs k x) told.1 ∙ sym (with_split total same xs x up) in
+        let len : length front ≡ used + 1 = ap length holds ∙ length_with order xs x ∙ ap suc (length_in_use memory used within) ∙ sym (add-one used) in
+        let all = whole memory used within front (used + 1) (omega arith) len in
+        let there : in_use (front ++ drop (used + 1) memory) (used + 1) ≡ with_line order xs x = kept memory used within front (drop (used + 1) memory) (used + 1) all len (omega arith) ∙ holds in
+        record {
+          lines = there ∙ sym (ap (λ r. cond (is_ok r) (with_line order xs x) xs) (sym put_taken));
+          increasing = subst (Increasing order) (sym there) (with_increasing total same xs x up told.0);
+          within = omega arith;
+          behind = drop-append-drop (used + 1) memory front 4096 (omega arith) len;
+        }
 
-  pub take_done : is_ok (take_answer order (in_use memory counted) x) ≡ true
-      → after ≡ without_line order (take used memory) x ++ drop (used - 1) memory
-      → Became order memory after (used - 1) (after_take order (in_use memory counted) x)
-  take_done ok e =
-      let xs = in_use memory counted in
-      let there = take_accepted order xs x ok in
-      let n = length_without order xs x there in
-      let fewer : length (without_line order xs x) ≡ used - 1 = omega arith in
-      let room : used - 1 ≤ places memory = let h = used_within memory counted used is in omega arith in
-      let holds : after ≡ without_line order xs x ++ drop (used - 1) memory = e ∙ ap (λ ys. without_line order ys x ++ drop (used - 1) memory) (handed_on memory counted used is) in
-      rw (cond-true (on_board order xs x) (without_line order xs x) xs there)
-      (became order memory after (used - 1) (without_line order xs x) same_length fewer room holds (without_increasing laws xs x up))
+  -- the search told that x stands at the place
+  module _ (on : Ok at ≡ standing order (in_use memory used) x) where
+    pub take_done : (front : List L) → front ≡ remove (take used memory) at ++ drop (length (take used memory) - 1) (take used memory)
+        → Became order memory (front ++ drop used memory) (used - 1) (after_take order (in_use memory used) x)
+    take_done front is =
+        let xs = in_use memory used in
+        let told = is_found order xs x at on in
+        let old = all_used memory used within in
+        let last = drop (length (take used memory) - 1) (take used memory) in
+        let rest : remove (take used memory) at ≡ without_line order xs x = ap (λ ys. remove ys at) (sym old) ∙ ap (λ k. remove xs k) told.1 ∙ sym (without_split total same xs x up told.0) in
+        let holds : front ≡ without_line order xs x ++ last = is ∙ ap (λ ys. ys ++ last) rest in
+        let in_all = length_in_use memory used within in
+        let all = length-take-le used memory (omega arith) in
+        let one_less = length_without order xs x told.0 in
+        let len : length (without_line order xs x) ≡ used - 1 = omega arith in
+        let one = length-drop (length (take used memory) - 1) (take used memory) in
+        let len_all : length front ≡ used = ap length holds ∙ length-append (without_line order xs x) last ∙ omega arith in
+        let joined : front ++ drop used memory ≡ without_line order xs x ++ (last ++ drop used memory) = ap (λ ys. ys ++ drop used memory) holds ∙ append_assoc (without_line order xs x) last (drop used memory) in
+        let size = whole memory used within front used (omega arith) len_all in
+        let there : in_use (front ++ drop used memory) (used - 1) ≡ without_line order xs x =
+        ap (λ ys. in_use ys (used - 1)) joined ∙ kept memory used within (without_line order xs x) (last ++ drop used memory) (used - 1) (sym (ap length joined) ∙ size) len (omega arith) in
+        record {
+          lines = there ∙ sym (cond-true _ _ _ told.0);
+          increasing = subst (Increasing order) (sym there) (without_increasing total same xs x up);
+          within = omega arith;
+          behind = drop-append-drop used memory front 4096 (omega arith) len_all;
+        }

@@ -1,62 +1,62 @@
 -- Increasing lines with one more and with one fewer: how they split where it stands, that they stay increasing, and how many there are. Assumes nothing.
-use Rattle.std.proofs.Common.{◌≡◌, suc, Bool, true, false, cond, ◌||◌, List, [], ◌∷◌, ◌++◌, length, take, drop, Ordering, Less, refl, ap, ◌∙◌, arith}
+use Rattle.std.proofs.Common.{◌≡◌, suc, Bool, true, false, cond, ◌||◌, List, [], ◌∷◌, ◌++◌, length, take, drop, Ordering, Less, Equal, refl, ap, ◌∙◌, arith}
 use Rattle.std.proofs.lemmas.Bool.{cond_both, both_ways, true≢false}
 use Rattle.std.specs.Ordering.{is_lt, is_eq, ordering_reverse}
-use Rattle.boards.specs.Orders.{Laws}
-use Rattle.boards.specs.Lines.{AllAfter, Increasing, on_board, count_before, with_line, without_line}
-use Rattle.boards.proofs.Standing.{by_order, less_not_equal, less_not_greater, none_before, none_same}
+use Rattle.std.specs.List.{AllByRecursion}
+use Rattle.std.specs.List.Sorted.{IsStrictlySortedBy}
+use Rattle.std.specs.Cmp.{IsTotalOrder}
+use Rattle.boards.specs.Lines.{Increasing, on_board, count_before, with_line, without_line}
+use Rattle.boards.proofs.Standing.{by_order, behind}
 
 -- ---- the lines before the place and behind it, and their order
 
-module _ {L : Type 0} {order : L → L → Ordering} (laws : Laws order) where
+module _ {L : Type 0} {order : L → L → Ordering} (total : IsTotalOrder order) (same : (x y : L) → order x y ≡ Equal → x ≡ y) where
   pub with_split : (xs : List L) (x : L) → Increasing order xs → with_line order xs x ≡ take (count_before order xs x) xs ++ x ∷ drop (count_before order xs x) xs
-  unfolding Increasing AllAfter count_before with_line
+  unfolding IsStrictlySortedBy count_before with_line
   with_split [] x up = refl
   with_split (y ∷ ys) x up =
-      let last = λ (n : order y x ≡ Less → ⊥). none_before laws y x ys up.0 n in
       by_order (order y x)
       (λ e. rw e (ap (λ zs. y ∷ zs) (with_split ys x up.1)))
-      (λ e. rw (e, last (λ l. less_not_equal (order y x) l e)))
-      (λ e. rw (e, last (λ l. less_not_greater (order y x) l e)))
+      (λ e. rw (e, (behind total same y x ys up (ap is_lt e)).0))
+      (λ e. rw (e, (behind total same y x ys up (ap is_lt e)).0))
 
   pub without_split : (xs : List L) (x : L) → Increasing order xs → on_board order xs x ≡ true
       → without_line order xs x ≡ take (count_before order xs x) xs ++ drop (suc (count_before order xs x)) xs
-  unfolding Increasing AllAfter on_board count_before without_line
+  unfolding IsStrictlySortedBy on_board count_before without_line
   without_split [] x up b = absurd (grind arith)
   without_split (y ∷ ys) x up b =
       by_order (order y x)
       (λ e. rw e (ap (λ zs. y ∷ zs) (without_split ys x up.1 (rw e at b))))
-      (λ e. rw (e, none_before laws y x ys up.0 (λ l. less_not_equal (order y x) l e)))
-      (λ e. absurd (both_ways _ (none_same laws y x ys up.0 (λ l. less_not_greater (order y x) l e)) (rw e at b)))
+      (λ e. rw (e, (behind total same y x ys up (ap is_lt e)).0))
+      (λ e. absurd (both_ways _ (behind total same y x ys up (ap is_lt e)).1 (rw e at b)))
 
-  after_with : (y x : L) (ys : List L) → AllAfter order y ys → order y x ≡ Less → AllAfter order y (with_line order ys x)
-  unfolding AllAfter with_line
+  after_with : (y x : L) (ys : List L) → AllByRecursion (λ z. order y z ≡ Less) ys → order y x ≡ Less → AllByRecursion (λ z. order y z ≡ Less) (with_line order ys x)
+  unfolding with_line
   after_with y x [] h e = (e, tt)
   after_with y x (z ∷ zs) h e =
-      cond_both (is_lt (order z x)) _ _ (AllAfter order y) (λ _. (h.0, after_with y x zs h.1 e)) (λ _. (e, h))
+      cond_both (is_lt (order z x)) _ _ (AllByRecursion (λ z. order y z ≡ Less)) (λ _. (h.0, after_with y x zs h.1 e)) (λ _. (e, h))
 
-  after_chain : (x y : L) (ys : List L) → order x y ≡ Less → AllAfter order y ys → AllAfter order x ys
-  unfolding AllAfter
+  after_chain : (x y : L) (ys : List L) → order x y ≡ Less → AllByRecursion (λ z. order y z ≡ Less) ys → AllByRecursion (λ z. order x z ≡ Less) ys
   after_chain x y [] e h = tt
-  after_chain x y (z ∷ zs) e h = (laws.chain x y z e h.0, after_chain x y zs e h.1)
+  after_chain x y (z ∷ zs) e h = (total.trans x y z e h.0, after_chain x y zs e h.1)
 
   pub with_increasing : (xs : List L) (x : L) → Increasing order xs → on_board order xs x ≡ false → Increasing order (with_line order xs x)
-  unfolding Increasing AllAfter on_board with_line
+  unfolding IsStrictlySortedBy on_board with_line
   with_increasing [] x up b = (tt, tt)
   with_increasing (y ∷ ys) x up b =
       by_order (order y x)
       (λ e. rw e (after_with y x ys up.0 e, with_increasing ys x up.1 (rw e at b)))
       (λ e. absurd (true≢false (rw e at b)))
-      (λ e. let first = laws.turned y x ∙ ap ordering_reverse e in rw e ((first, after_chain x y ys first up.0), up))
+      (λ e. let first = total.antisymm x y ∙ ap ordering_reverse e in rw e ((first, after_chain x y ys first up.0), up))
 
-  after_without : (y x : L) (ys : List L) → AllAfter order y ys → AllAfter order y (without_line order ys x)
-  unfolding AllAfter without_line
+  after_without : (y x : L) (ys : List L) → AllByRecursion (λ z. order y z ≡ Less) ys → AllByRecursion (λ z. order y z ≡ Less) (without_line order ys x)
+  unfolding without_line
   after_without y x [] h = tt
   after_without y x (z ∷ zs) h =
-      cond_both (is_eq (order z x)) _ _ (AllAfter order y) (λ _. h.1) (λ _. (h.0, after_without y x zs h.1))
+      cond_both (is_eq (order z x)) _ _ (AllByRecursion (λ z. order y z ≡ Less)) (λ _. h.1) (λ _. (h.0, after_without y x zs h.1))
 
   pub without_increasing : (xs : List L) (x : L) → Increasing order xs → Increasing order (without_line order xs x)
-  unfolding Increasing AllAfter without_line
+  unfolding IsStrictlySortedBy without_line
   without_increasing [] x up = tt
   without_increasing (y ∷ ys) x up =
       cond_both (is_eq (order y x)) _ _ (Increasing order) (λ _. up.1) (λ _. (after_without y x ys up.0, without_increasing ys x up.1))

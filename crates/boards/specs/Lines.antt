@@ -1,8 +1,8 @@
 -- The lines of a board as a list: what it means that they are increasing, and what each call answers and leaves. Assumes nothing.
-use Rattle.std.specs.Prelude.{◌≡◌, ℕ, zero, suc, min, Bool, false, cond, ◌||◌, List, [], ◌∷◌, length, take, is_ok, Some, None, Ok, Err, Option, Result, nat_lt}
-use Rattle.std.specs.declared.cmp.Ordering.TheVariants.{Less}
+use Rattle.std.specs.Prelude.{ℕ, zero, suc, min, Bool, false, cond, ◌||◌, List, [], ◌∷◌, length, take, is_ok, Some, None, Ok, Err, Option, Result, nat_lt}
 use Rattle.std.specs.declared.cmp.Ordering.{Ordering}
 use Rattle.std.specs.Ordering.{is_lt, is_eq}
+use Rattle.std.specs.List.Sorted.{IsStrictlySortedBy}
 use Rattle.std.specs.List.{slice_get}
 use Rattle.boards.specs.declared.refusals.PutRefusal.{PutRefusal}
 use Rattle.boards.specs.declared.refusals.PutRefusal.TheVariants.{Full, Present}
@@ -17,16 +17,9 @@ places memory = min (length memory) 4096
 abbrev pub in_use : {L : Type 0} → List L → ℕ → List L
 in_use memory used = take (min used (places memory)) memory
 
--- every line is after x
-unfoldable pub AllAfter : {L : Type 0} → (L → L → Ordering) → L → List L → Type 0
-AllAfter order x [] = Unit {0}
-AllAfter order x (y ∷ ys) = (order x y ≡ Less) × AllAfter order x ys
-
 -- each line is before all that follow it
-unfoldable pub Increasing : {L : Type 0} → (L → L → Ordering) → List L → Type 0
-unfolding AllAfter
-Increasing order [] = Unit {0}
-Increasing order (x ∷ xs) = AllAfter order x xs × Increasing order xs
+abbrev pub Increasing : {L : Type 0} → (L → L → Ordering) → List L → Type 0
+Increasing = IsStrictlySortedBy
 
 -- whether line x is on the board
 unfoldable pub on_board : {L : Type 0} → (L → L → Ordering) → List L → L → Bool

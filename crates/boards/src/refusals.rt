@@ -6,33 +6,28 @@ use words::refusal::Refusal;
 /// Why a line is not put on a board.
 #[derive(Clone, Copy, PartialEq, Eq, Debug)]
 pub enum PutRefusal {
-    Full,
-    Present,
+    Full = 11,
+    Present = 12,
 }
 
 impl Refusal for PutRefusal {
     ghost code = { put_number };
 
     fn number(&self) -> u8 {
-        match self {
-            PutRefusal::Full => 11,
-            PutRefusal::Present => 12,
-        }
+        *self as u8
     }
 }
 
 /// Why a line is not taken from a board.
 #[derive(Clone, Copy, PartialEq, Eq, Debug)]
 pub enum TakeRefusal {
-    Absent,
+    Absent = 13,
 }
 
 impl Refusal for TakeRefusal {
     ghost code = { take_number };
 
     fn number(&self) -> u8 {
-        match self {
-            TakeRefusal::Absent => 13,
-        }
+        *self as u8
     }
 }

@@ -1,23 +1,12 @@
 -- Crews that are shown one after another, and the lines that were printed for them. Assumes nothing.
-use Rattle.std.proofs.Common.{◌≡◌, ℕ, zero, suc, ◌+◌, ◌<◌, ◌≤◌, true, leb, List, [], ◌∷◌, ◌++◌, length, take, drop, is_ok, Some, None, Result, sym, refl, ap, ◌∙◌, add-one, arith}
+use Rattle.std.proofs.Common.{◌≡◌, ℕ, zero, suc, ◌+◌, ◌<◌, ◌≤◌, leb, List, [], ◌∷◌, ◌++◌, length, take, drop, Some, None, sym, ap, ◌∙◌, add-one, arith}
 use Rattle.std.specs.List.{flat_map}
-use Rattle.std.proofs.lemmas.List.{take_at, take_all, flat_map_more}
+use Rattle.std.proofs.lemmas.List.{take_all, flat_map_more}
 use Rattle.std.proofs.lemmas.Bool.{le-leb, lt-leb, cond-true, cond-false}
 use Rattle.tables.specs.Firsts.{first}
-use Rattle.prints.specs.Prints.{crew_line, printing, after_print}
-use Rattle.cards.specs.Shown.{ending, crew_lines, part}
+use Rattle.prints.specs.Prints.{crew_line}
+use Rattle.cards.specs.Shown.{ending, crew_lines}
 use Rattle.prints.specs.declared.ending.Tail.TheVariants.{End, More}
-use Rattle.prints.specs.declared.refusals.BufferRefusal.{BufferRefusal}
-use Rattle.prints.proofs.Drafts.{printing_taken, after_print_taken, fits_print}
-
--- the part of a buffer that a print wrote is the line, unless it was refused
-pub part_printed : (line buffer after : List ℕ) (answer : Result ℕ BufferRefusal) → answer ≡ printing line buffer → after ≡ after_print line buffer → is_ok answer ≡ true → part answer after ≡ line
-part_printed line buffer after answer answers leaves ok =
-    let fits = fits_print line buffer answer answers ok in
-    (λ i. part (answers i) (leaves i))
-    ∙ ap (λ r. part r (after_print line buffer)) (sym (printing_taken line buffer fits))
-    ∙ ap (take (length line)) (sym (after_print_taken line buffer fits))
-    ∙ take_at line (drop (length line) buffer) (length line) refl
 
 module _ {A : Type 0} where
   pub none_left : (k : ℕ) (cs : List A) → None ≡ first (drop k cs) → length cs ≤ k

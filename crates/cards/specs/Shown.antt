@@ -1,8 +1,8 @@
 -- What is shown of a card: its crews, or its first fault. Assumes nothing.
-use Rattle.std.specs.Prelude.{ℕ, ◌*◌, cond, List, [], ◌++◌, length, take, Ok, Err, Result, nat_le}
+use Rattle.std.specs.Prelude.{ℕ, ◌*◌, cond, List, ◌++◌, length, take, Ok, Err, Result, nat_le}
 use Rattle.std.specs.List.{flat_map}
 use Rattle.tables.specs.Crews.{crews}
-use Rattle.rosters.specs.Rosters.{bit_grid}
+use Rattle.rosters.specs.Rosters.{bit_sheet}
 use Rattle.tables.specs.Sheet.{Sheet, sheet, unmarked}
 use Rattle.rosters.specs.declared.bit_roster.BitRoster.{BitRoster}
 use Rattle.sessions.specs.declared.marking.Marking.{Marking}
@@ -10,7 +10,6 @@ use Rattle.texts.specs.Cards.{heading, filled}
 use Rattle.prints.specs.Prints.{crew_line, tail_line, fault_text}
 use Rattle.prints.specs.declared.ending.Tail.{Tail}
 use Rattle.prints.specs.declared.ending.Tail.TheVariants.{End, More}
-use Rattle.prints.specs.declared.refusals.BufferRefusal.{BufferRefusal}
 use Rattle.texts.specs.declared.refusals.TextFault.{TextFault}
 
 -- the sheet after a card's lines, or their first fault
@@ -30,7 +29,7 @@ card_sheet text = filled_from text (heading text)
 
 -- what a session on a bit roster means
 abbrev pub session_sheet : Marking BitRoster → Sheet
-session_sheet s = sheet (bit_grid s.roster) s.roster.free
+session_sheet s = bit_sheet s.roster
 
 -- a session that a card was put on, by what it means
 abbrev pub sheet_told : Result (Marking BitRoster) TextFault → Result Sheet TextFault
@@ -57,8 +56,3 @@ sheet_text (Err f) = fault_text f
 -- what is shown of a card
 abbrev pub shown : List ℕ → List ℕ
 shown text = sheet_text (card_sheet text)
-
--- the front of a line that was written to a buffer
-abbrev pub part : Result ℕ BufferRefusal → List ℕ → List ℕ
-part (Ok n) line = take n line
-part (Err e) line = []

@@ -1,14 +1,13 @@
 // The answer to a card: its crews, or its first fault, as the text to be shown.
-ghost use Rattle.std.specs.Prelude.{◌≡◌, ◌≤◌, ◌++◌, length, IfOk, OnOk};
+ghost use Rattle.std.specs.Prelude.{◌≡◌, ◌++◌, IfOk, OnOk};
 ghost use Rattle.tables.specs.Crews.{ahead, crews};
 ghost use Rattle.rosters.specs.Rosters.{bit_grid};
 ghost use Rattle.prints.specs.Prints.{fault_text};
-ghost use Rattle.cards.specs.Shown.{shown, card_sheet, sheet_told, crews_text, crew_lines, ending, part};
+ghost use Rattle.cards.specs.Shown.{shown, card_sheet, sheet_told, crews_text, crew_lines, ending};
 
 use finders::limit::Limit;
 use prints::ending::Tail;
-use prints::print::{fault_line, print, tail};
-use prints::refusals::BufferRefusal;
+use prints::line;
 use rosters::bit_roster::BitRoster;
 use sessions::listing::Listing;
 use sessions::marking::Marking;
@@ -23,7 +22,7 @@ pub fn answer(heap: Global, text: &[u8]) -> Result<Vec<u8>, AllocError>
     let mut answer = Vec::new(heap);
     match fill_roster(text) {
         Ok(session) => show_crews(session, &mut answer)?,
-        Err(fault) => show_fault(&fault, &mut answer)?,
+        Err(fault) => answer.extend_from_slice(line::fault(&fault).as_str().as_bytes())?,
     }
     Ok(answer)
 }
@@ -38,58 +37,31 @@ fn fill_roster(text: &[u8]) -> Result<Marking<BitRoster>, TextFault>
     Ok(session)
 }
 
-// Adds the line of a fault.
-fn show_fault(fault: &TextFault, answer: &mut Vec<u8>) -> Result<(), AllocError>
-    ensures { OnOk result (answer.new.items ≡ answer.old.items ++ fault_text fault.now) }
-{
-    let mut line = [0; 34];
-    let count = fault_line(fault, &mut line);
-    add(&line, count, answer)
-}
-
 // Adds the lines of the crews of a session, and how they end.
 fn show_crews(session: Marking<BitRoster>, answer: &mut Vec<u8>) -> Result<(), AllocError>
     ensures { OnOk result (answer.new.items ≡ answer.old.items ++ crews_text (crews (bit_grid session.roster))) }
 {
-    let Ok(limit) = Limit::new(512) else {
-        return Ok(());
+    let Ok(limit) = Limit::try_from(512) else {
+        unreachable!();
     };
     let mut listing = session.close(limit);
     let ending = show_ahead(&mut listing, answer)?;
-    let mut line = [0; 25];
-    let count = tail(ending, &mut line);
-    add(&line, count, answer)
+    answer.extend_from_slice(line::tail(ending).as_str().as_bytes())
 }
 
 // Adds the lines of the crews ahead, at most 512, and tells how they end.
 fn show_ahead(listing: &mut Listing<BitRoster>, answer: &mut Vec<u8>) -> Result<Tail, AllocError>
-    ensures { IfOk result (λ t. (t ≡ ending (ahead (bit_grid listing.old.table) listing.old.walk.position)) × (answer.new.items ≡ answer.old.items ++ crew_lines (ahead (bit_grid listing.old.table) listing.old.walk.position))) }
+    ensures { IfOk result (λ t. (t ≡ ending (ahead (bit_grid listing.old.table) listing.old.walk)) × (answer.new.items ≡ answer.old.items ++ crew_lines (ahead (bit_grid listing.old.table) listing.old.walk))) }
 {
+    // The number of the crews shown so far is the answer where the list ends, so the loop counts them.
     for shown in 0..512 {
         let Some(crew) = listing.next() else {
             return Ok(Tail::End(shown));
         };
-        let mut line = [0; 366];
-        let count = print(&crew, &mut line);
-        add(&line, count, answer)?;
+        answer.extend_from_slice(line::crew(&crew).as_str().as_bytes())?;
     }
     match listing.next() {
         Some(_) => Ok(Tail::More),
         None => Ok(Tail::End(512)),
-    }
-}
-
-// Adds the first `count` bytes of `line`, or none where the print of it was refused.
-fn add(
-    line: &[u8],
-    count: Result<usize, BufferRefusal>,
-    answer: &mut Vec<u8>,
-) -> Result<(), AllocError>
-    requires { IfOk count (λ n. n ≤ length line.now) }
-    ensures { OnOk result (answer.new.items ≡ answer.old.items ++ part count line.now) }
-{
-    match count {
-        Ok(count) => answer.extend_from_slice(&line[0..count]),
-        Err(_) => Ok(()),
     }
 }

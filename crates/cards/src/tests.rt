@@ -14,10 +14,12 @@ use tables::table::Table;
 use texts::card::{apply, head};
 use texts::refusals::{Cause, TextFault};
 
-// Whether `card` is answered by `expected`.
-fn gives(rt: &(impl Abort + AllocGlobal), card: &[u8], expected: &[u8]) -> Result<(), Fail> {
-    let shown = answer(rt.alloc(), card)?;
-    assert!(rt; shown.as_slice() == expected);
+// Whether each card is answered by the text beside it.
+fn gives(rt: &(impl Abort + AllocGlobal), cards: &[(&str, &str)]) -> Result<(), Fail> {
+    for (card, expected) in cards {
+        let shown = answer(rt.alloc(), card.as_bytes())?;
+        assert!(rt; shown.as_slice() == expected.as_bytes());
+    }
     Ok(())
 }
 
@@ -25,63 +27,75 @@ fn gives(rt: &(impl Abort + AllocGlobal), card: &[u8], expected: &[u8]) -> Resul
 fn crews_in_order(rt: HostRuntime) -> Result<(), Fail> {
     gives(
         &rt,
-        b"size 4 4\nfree 0 0\nfree 0 1\nfree 1 0\nfree 1 1\nfree 1 2\nfree 2 1\nfree 2 2\nfree 3 3\n",
-        b"0,1,2 / 1\n0,1 / 0,1\n1,2 / 1,2\n1 / 0,1,2\n3 / 3\nend 5\n",
-    )?;
-    gives(&rt, b"size 3 3", b"end 0\n")?;
-    gives(&rt, b"size 1 1\nfree 0 0", b"0 / 0\nend 1\n")?;
-    gives(
-        &rt,
-        b"size 64 64\nfree 63 63\nfree 9 10\nfree 10 9\noff 63 63\n",
-        b"9 / 10\n10 / 9\nend 2\n",
+        &[
+            (
+                "size 4 4\nfree 0 0\nfree 0 1\nfree 1 0\nfree 1 1\nfree 1 2\nfree 2 1\nfree 2 2\nfree 3 3\n",
+                "0,1,2 / 1\n0,1 / 0,1\n1,2 / 1,2\n1 / 0,1,2\n3 / 3\nend 5\n",
+            ),
+            ("size 3 3", "end 0\n"),
+            ("size 1 1\nfree 0 0", "0 / 0\nend 1\n"),
+            (
+                "size 64 64\nfree 63 63\nfree 9 10\nfree 10 9\noff 63 63\n",
+                "9 / 10\n10 / 9\nend 2\n",
+            ),
+        ],
     )
 }
 
 #[test]
 fn faults_of_the_head(rt: HostRuntime) -> Result<(), Fail> {
-    gives(&rt, b"", b"fault 5 line 1\n")?;
-    gives(&rt, b"\nsize 4 4\n", b"fault 5 line 1\n")?;
-    gives(&rt, b"free 0 0\n", b"fault 5 line 1\n")?;
-    gives(&rt, b"size 4 4\r\n", b"fault 5 line 1\n")?;
-    gives(&rt, b"size 100 1\n", b"fault 5 line 1\n")?;
-    gives(&rt, b"size 04 4\n", b"fault 5 line 1\n")?;
-    gives(&rt, b"size 0 4\n", b"fault 3 line 1\n")?;
-    gives(&rt, b"size 4 65\n", b"fault 3 line 1\n")?;
-    gives(&rt, b"size 99 64\n", b"fault 3 line 1\n")
+    gives(
+        &rt,
+        &[
+            ("", "fault 5 line 1\n"),
+            ("\nsize 4 4\n", "fault 5 line 1\n"),
+            ("free 0 0\n", "fault 5 line 1\n"),
+            ("size 4 4\r\n", "fault 5 line 1\n"),
+            ("size 100 1\n", "fault 5 line 1\n"),
+            ("size 04 4\n", "fault 5 line 1\n"),
+            ("size 0 4\n", "fault 3 line 1\n"),
+            ("size 4 65\n", "fault 3 line 1\n"),
+            ("size 99 64\n", "fault 3 line 1\n"),
+        ],
+    )
 }
 
 #[test]
 fn faults_of_later_lines(rt: HostRuntime) -> Result<(), Fail> {
-    gives(&rt, b"size 4 4\nfree 4 4\n", b"fault 1 line 2\n")?;
-    gives(&rt, b"size 4 4\nfree 0 4\n", b"fault 2 line 2\n")?;
-    gives(&rt, b"size 4 4\nfree 99 0", b"fault 1 line 2\n")?;
-    gives(&rt, b"size 4 4\nfree 00 1\n", b"fault 5 line 2\n")?;
     gives(
         &rt,
-        b"size 4 4\n\nfree 0 0\nsize 4 4\n",
-        b"fault 5 line 4\n",
-    )?;
-    gives(&rt, b"size 4 4\nfree 0  1\n", b"fault 5 line 2\n")?;
-    gives(&rt, b"size 4 4\nfree 0 1 \n", b"fault 5 line 2\n")
+        &[
+            ("size 4 4\nfree 4 4\n", "fault 1 line 2\n"),
+            ("size 4 4\nfree 0 4\n", "fault 2 line 2\n"),
+            ("size 4 4\nfree 99 0", "fault 1 line 2\n"),
+            ("size 4 4\nfree 00 1\n", "fault 5 line 2\n"),
+            ("size 4 4\n\nfree 0 0\nsize 4 4\n", "fault 5 line 4\n"),
+            ("size 4 4\nfree 0  1\n", "fault 5 line 2\n"),
+            ("size 4 4\nfree 0 1 \n", "fault 5 line 2\n"),
+        ],
+    )
 }
 
 #[test]
 fn damaged_lines(rt: HostRuntime) -> Result<(), Fail> {
-    gives(&rt, b"size 4 4\nfree\t0 1\n", b"fault 5 line 2\n")?;
-    gives(&rt, b"size 4 4\nFree 0 1\n", b"fault 5 line 2\n")?;
-    gives(&rt, b"size 4 4\nfree 1\n", b"fault 5 line 2\n")?;
-    gives(&rt, b"size 4 4\nfre 0 1\n", b"fault 5 line 2\n")?;
-    gives(&rt, b"size 4 4\noff 1 010\n", b"fault 5 line 2\n")?;
-    gives(&rt, b"size 4 4\noff  1 1\n", b"fault 5 line 2\n")?;
-    gives(&rt, b"size 4 4\n free 1 1\n", b"fault 5 line 2\n")
+    gives(
+        &rt,
+        &[
+            ("size 4 4\nfree\t0 1\n", "fault 5 line 2\n"),
+            ("size 4 4\nFree 0 1\n", "fault 5 line 2\n"),
+            ("size 4 4\nfree 1\n", "fault 5 line 2\n"),
+            ("size 4 4\nfre 0 1\n", "fault 5 line 2\n"),
+            ("size 4 4\noff 1 010\n", "fault 5 line 2\n"),
+            ("size 4 4\noff  1 1\n", "fault 5 line 2\n"),
+            ("size 4 4\n free 1 1\n", "fault 5 line 2\n"),
+        ],
+    )
 }
 
 #[test]
 fn lines_before_a_fault_stay(rt: HostRuntime) -> Result<(), Fail> {
     let text = b"size 3 3\nfree 0 0\n\nfree 1 1\noff 0 0\nfree 3 0\nfree 2 2\n";
-    let Ok(size) = head(text) else {
-        return Err(Fail::new("no head"));
-    };
+    let size = head(text).map_err(|_| Fail::new("no head"))?;
     let mut session = Marking::new(BitRoster::new(size));
     let fault = TextFault {
         line: 6,
@@ -95,11 +109,10 @@ fn lines_before_a_fault_stay(rt: HostRuntime) -> Result<(), Fail> {
     Ok(())
 }
 
+// A print goes into its caller's memory, so these tests lend arrays of the lengths that matter.
 #[test]
 fn the_longest_crew(rt: HostRuntime) -> Result<(), Fail> {
-    let Some(crew) = Crew::new(u64::MAX, u64::MAX) else {
-        return Err(Fail::new("no crew"));
-    };
+    let crew = Crew::new(u64::MAX, u64::MAX).ok_or_else(|| Fail::new("no crew"))?;
     let mut exact = [7; 366];
     assert_eq!(rt; print(&crew, &mut exact), Ok(366));
     assert!(rt; exact[365] == b'\n');
@@ -137,11 +150,8 @@ fn short_lines(rt: HostRuntime) {
 fn but_equal(heap: Global, n: u8) -> Result<String, AllocError> {
     let mut card = format!(in heap; "size {n} {n}\n")?;
     for i in 0..n {
-        for j in 0..n {
-            if i != j {
-                let line = format!(in heap; "free {i} {j}\n")?;
-                card.push_str(line.as_str())?;
-            }
+        for j in (0..n).filter(|&j| j != i) {
+            writeln!(card, "free {i} {j}")?;
         }
     }
     Ok(card)

@@ -1,35 +1,32 @@
 // Reads a card from standard input and writes its crews, or its first fault.
 #![tactic(auto)]
 
-ghost use Rattle.std.specs.Prelude.{◌≤◌, length, IfOk};
+ghost use Rattle.std.specs.Prelude.{◌≡◌, ◌≤◌, length, take, IfOk, IfSome};
 
 use cards::answer::answer;
+use std::alloc::Global;
 use std::io;
 use std::io::{Read, Write};
 
 // The most bytes of a card that are read.
 const CARD: usize = 32768;
 
-// Reads standard input into `card` until it ends or `card` is full, and tells how many bytes came.
-fn fill(rt: &HostRuntime, card: &mut [u8]) -> io::Result<usize>
-    ensures { IfOk result (λ n. n ≤ length card.old) }
+// The first bytes that `input` gives, up to its end or to the most that are read.
+fn read_card<R: Read>(heap: Global, input: R) -> io::Result<Vec<u8>>
+where
+    R: Drop,
+    ensures short { IfOk result (λ card. length card.items ≤ 32768) }
+    ensures bytes { IfOk result (λ card. IfSome (R.remaining input) (λ xs. card.items ≡ take 32768 xs)) }
 {
-    let mut input = rt.stdin();
-    let mut count = 0;
-    // Each read but the last gives a byte or more, so that many reads are enough.
-    for _ in 0..card.len() {
-        let more = input.read(&mut card[count..])?;
-        if more == 0 {
-            break;
-        }
-        count += more;
-    }
-    Ok(count)
+    let mut card = Vec::new(heap);
+    input.take(CARD as u64).read_to_end(&mut card)?;
+    // `take` has stopped there; this line says it of a reader too whose bytes no clause can know.
+    card.truncate(CARD);
+    Ok(card)
 }
 
 fn main(rt: HostRuntime) -> io::Result<()> {
-    let mut card = [0; CARD];
-    let count = fill(&rt, &mut card)?;
-    let shown = answer(rt.alloc(), &card[0..count])?;
+    let card = read_card(rt.alloc(), rt.stdin())?;
+    let shown = answer(rt.alloc(), card.as_slice())?;
     rt.stdout().write_all(shown.as_slice())
 }

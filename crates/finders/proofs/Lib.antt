@@ -2,6 +2,7 @@ pub mod Complete
 pub mod FoundLists
 pub mod MemberWords
 pub mod Places
+pub mod Ranges
 pub mod Rule
 pub mod Sound
 pub mod Starting

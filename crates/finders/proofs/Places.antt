@@ -1,16 +1,15 @@
 -- The places of a found list as a list of crews: their number, each of them, none at the start and one more. Assumes nothing.
-use Rattle.std.proofs.Common.{◌≡◌, ℕ, zero, suc, ◌+◌, ◌<◌, ◌≤◌, true, false, ltb, List, [], ◌∷◌, ◌++◌, map, length, get_or, take, set, replicate, is_some, Some, None, Option, sym, refl, ap, ◌∙◌, ⊎_elim, arith, get_or-set_other, get_or-set_same}
+use Rattle.std.proofs.Common.{◌≡◌, ℕ, zero, suc, ◌+◌, ◌<◌, ◌≤◌, true, false, ltb, List, [], ◌∷◌, ◌++◌, map, length, get_or, take, flat_map, set, replicate, is_some, Some, None, Option, sym, refl, ap, ◌∙◌, ⊎_elim, arith, get_or-set_other, get_or-set_same}
 use lib.Dec.{leb-suc-suc, leb-suc-zero, leb-zero}
 use lib.ListN.{length-map}
-use Rattle.std.specs.Option.{option_map}
+use Rattle.std.specs.Option.{option_map, option_to_list}
 use Rattle.std.proofs.lemmas.List.{length-take-le, take_more_set, map_push, get_or-map, get_or-take}
 use Rattle.std.proofs.lemmas.Bool.{both_ways, cases_eq, lt-ltb}
 use Rattle.std.proofs.lemmas.Bool.Decides.{nat_tests}
 use Rattle.tables.specs.Sides.{sides}
 use Rattle.tables.specs.declared.crew.Crew.{Crew}
-use Rattle.finders.specs.Found.{found_crews, number, has_members}
-use Rattle.finders.specs.Places.{words_at, front_crews, Filled, Apart}
-use Rattle.finders.specs.declared.found.Found.{Found}
+use Rattle.finders.specs.Found.{number, has_members}
+use Rattle.finders.specs.Places.{words_at, front_crews, Filled, Apart, Places}
 use Rattle.finders.proofs.FoundLists.{has_members_at}
 
 -- ---- one place
@@ -42,6 +41,14 @@ unfolding front_crews
 front_at places n k l h =
     let e = length-take-le n places h in
     get_or-map words_at (take n places) k None (0, 0) (omega arith) ∙ ap words_at (get_or-take n places k None l)
+
+-- the crews of the first places, one after another
+pub front_listed : (places : List (Option Crew)) (n : ℕ) → Filled places n → map sides (flat_map option_to_list (take n places)) ≡ front_crews places n
+unfolding front_crews
+front_listed places zero h = refl
+front_listed [] (suc n) h = refl
+front_listed (None ∷ ps) (suc n) h = absurd (both_ways false refl (h 0 ∙ leb-suc-suc 0 n ∙ leb-zero n))
+front_listed (Some c ∷ ps) (suc n) h = ap (λ l. sides c ∷ l) (front_listed ps n (λ i. h (suc i) ∙ leb-suc-suc (suc i) n))
 
 -- ---- no crew
 
@@ -82,9 +89,12 @@ module _ (places : List (Option Crew)) (n : ℕ) (crew : Crew) (within : n < len
       (λ s. h i j l (omega arith) (sym first ∙ e ∙ ap (λ p. (words_at p).0) (get_or-set_other places n j (Some crew) None s)))
       (cases_eq j n)
 
-pub found_length : (f : Found) → length (found_crews f) ≡ f.used
-found_length f = let long = f.places_count in let fits = f.fits in front_length f.places f.used (omega arith)
+-- ---- the places of a found list
 
--- a found list never holds more crews than it has places
-pub found_fits : (f : Found) → length (found_crews f) ≤ 512
-found_fits f = let e = found_length f in let fits = f.fits in omega arith
+module _ (places : List (Option Crew)) (n : ℕ) (kept : Places places n) where
+  pub used_length : length (front_crews places n) ≡ n
+  used_length = let long = kept.places_count in let fits = kept.fits in front_length places n (omega arith)
+
+  -- where fewer than 512 crews are found, there is a free place
+  pub place_left : (l : List (ℕ × ℕ)) → front_crews places n ≡ l → length l < 512 → n < length places
+  place_left l e room = let long = kept.places_count in let used = used_length in let same = ap length e in omega arith

@@ -1,10 +1,10 @@
 -- The finder's rule by its cases: what a step takes, answers and leaves. Assumes nothing.
-use Rattle.std.proofs.Common.{◌≡◌, ℕ, zero, suc, ◌+◌, ◌-◌, ◌*◌, ◌<◌, ◌≤◌, true, false, ◌⊎◌, [], ◌∷◌, ◌++◌, length, Some, None, Ok, Err, Option, sym, refl, ap, ◌∙◌, inl, inr, ⊎_elim, mul-le-mul, zero-mul, arith}
+use Rattle.std.proofs.Common.{◌≡◌, ℕ, zero, suc, ◌+◌, ◌-◌, ◌*◌, ◌<◌, ◌≤◌, true, false, cond, ◌⊎◌, [], ◌∷◌, ◌++◌, length, Some, None, Ok, Err, Option, sym, refl, ap, ◌∙◌, inl, inr, ⊎_elim, mul-le-mul, zero-mul, arith}
 use Rattle.std.proofs.lemmas.Bool.{leb-true, leb-false, le-leb, lt-leb, lt-ltb, le-ltb, cond-true, cond-false, cases_Bool, cases_lt}
 use Rattle.tables.specs.Grid.{Grid, Proper, member_word, common_slots}
 use Rattle.tables.specs.Sides.{crew_of}
 use Rattle.tables.proofs.Sides.{none_some, crew_of_some}
-use Rattle.finders.specs.Finder.{Finding, starters, met, wanted, finished, fresh, stepped, adding_answer, after_adding, step_answer, after_step}
+use Rattle.finders.specs.Finder.{Finding, starters, met, wanted, finished, fresh, due, stepped, adding_answer, after_adding, step_answer, after_step}
 use Rattle.finders.specs.Found.{has_members}
 use Rattle.finders.specs.declared.finder.Step.TheVariants.{Worked, Done}
 use Rattle.finders.specs.declared.refusals.StepRefusal.TheVariants.{Full}
@@ -37,10 +37,6 @@ module _ (g : Grid) (st : Finding) where
   unfolding finished
   past_finished h = le-leb _ _ h
 
-  -- a step that takes a pair finds a starter
-  pub some_starter : finished g st ≡ false → g.slots ≤ st.steps → 0 < starters g
-  some_starter h past = let l = unfinished_below h in factor_some (starters g) (length st.found) (st.steps - g.slots) (omega arith)
-
   -- the steps of a finder with up to 512 found crews are few
   pub steps_few : Proper g → length st.found ≤ 512 → finished g st ≡ false → st.steps + 1 ≤ 64 + 64 * 512
   steps_few proper fits h =
@@ -59,7 +55,35 @@ module _ (g : Grid) (st : Finding) where
   unfolding wanted
   wanted_pair h = cond-false _ _ _ (le-ltb st.steps g.slots h)
 
+  -- ---- the members that are due
+
+  pub due_none : due g st ≡ None → finished g st ≡ true
+  due_none e = ⊎_elim (λ h. h) (λ h. absurd (none_some _ (sym e ∙ cond-false _ _ _ h))) (cases_Bool (finished g st))
+
+  pub due_some : (m : ℕ) → due g st ≡ Some m → (finished g st ≡ false) × (m ≡ wanted g st)
+  due_some m e =
+      ⊎_elim
+      (λ h. absurd (none_some m (sym (cond-true _ _ _ h) ∙ e)))
+      (λ h. let same : Some m ≡ Some (wanted g st) = sym e ∙ cond-false _ _ _ h in (h, cc))
+      (cases_Bool (finished g st))
+
+  pub none_due : g.slots + starters g * length st.found ≤ st.steps → due g st ≡ None
+  none_due h = cond-true _ _ _ (past_finished h)
+
+  pub slot_due : st.steps < g.slots → due g st ≡ Some (member_word g st.steps)
+  unfolding finished
+  slot_due h = cond-false _ _ _ (lt-leb _ st.steps (omega arith)) ∙ ap Some (wanted_slot h)
+
+  pub pair_due : g.slots ≤ st.steps → st.steps < g.slots + starters g * length st.found → due g st ≡ Some (met st.found (starters g) (st.steps - g.slots))
+  unfolding finished
+  pair_due past h = cond-false _ _ _ (lt-leb _ st.steps h) ∙ ap Some (wanted_pair past)
+
   -- ---- the crew that it adds
+
+  -- the crew that is made of the members due
+  pub fresh_due : (m : ℕ) (o : Option (ℕ × ℕ)) → m ≡ wanted g st → o ≡ cond (has_members m st.found) None (crew_of m (common_slots g m)) → o ≡ fresh g st
+  unfolding fresh
+  fresh_due m o same e = e ∙ ap (λ x. cond (has_members x st.found) None (crew_of x (common_slots g x))) same
 
   pub fresh_held : has_members (wanted g st) st.found ≡ true → fresh g st ≡ None
   unfolding fresh

@@ -1,6 +1,6 @@
 -- The starters: which slots start a word, and how many words they are. Assumes nothing.
-use Rattle.std.proofs.Common.{◌≡◌, ℕ, zero, suc, ◌+◌, ◌<◌, ◌≤◌, Bool, true, false, not, eqb, ltb, [], ◌∷◌, ◌++◌, length, Decides, sym, refl, ap, ◌∙◌, subst, ⊎_elim, arith}
-use Rattle.std.specs.List.{ContainsAt}
+use Rattle.std.proofs.Common.{◌≡◌, ℕ, zero, suc, ◌+◌, ◌<◌, ◌≤◌, Bool, true, false, cond, filter, not, eqb, ltb, [], ◌∷◌, ◌++◌, length, Decides, sym, refl, ap, ◌∙◌, subst, ⊎_elim, arith}
+use Rattle.std.specs.List.{ContainsAt, range_with_len}
 use Rattle.std.proofs.ByRecursion.{has_append_left, has_push, has_push_cases}
 use Rattle.std.proofs.lemmas.List.{length_push}
 use Rattle.std.proofs.lemmas.Bool.{and_cases, both_ways, cases_Bool, cases_eq, cond-true, cond-false, eqb-true, lt-ltb, not-false}
@@ -9,6 +9,7 @@ use Rattle.words.specs.Bits.{every}
 use Rattle.tables.specs.Grid.{Grid, member_word}
 use Rattle.tables.proofs.Listed.{has_none}
 use Rattle.finders.specs.Finder.{starts, starter_words, starters}
+use Rattle.finders.proofs.Ranges.{passed_more}
 
 -- slot j starts a word where it has members and no slot before it has the same
 pub starts_tells : (g : Grid) (j : ℕ) → Decides (starts g j) ((0 < member_word g j) × ((k : ℕ) → k < j → member_word g k ≡ member_word g j → ⊥))
@@ -41,6 +42,17 @@ words_most g (suc n) =
 pub starters_most : (g : Grid) → starters g ≤ g.slots
 unfolding starters
 starters_most g = words_most g g.slots
+
+-- they are the slots that start a word
+pub words_counted : (g : Grid) (n : ℕ) → length (filter (starts g) (range_with_len 0 n)) ≡ length (starter_words g n)
+unfolding starter_words
+words_counted g zero = refl
+words_counted g (suc n) =
+    passed_more (starts g) n ∙ ap (λ k. k + cond (starts g n) 1 0) (words_counted g n)
+    ∙ ⊎_elim
+    (λ e. let h = words_taken g n e in let one : ◌≡◌ {A = ℕ} (cond (starts g n) 1 0) 1 = cond-true _ _ _ e in omega arith)
+    (λ e. let h = words_skipped g n e in let none : ◌≡◌ {A = ℕ} (cond (starts g n) 1 0) 0 = cond-false _ _ _ e in omega arith)
+    (cases_Bool (starts g n))
 
 -- ---- which words they are
 

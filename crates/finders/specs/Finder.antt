@@ -3,7 +3,7 @@ use Rattle.std.specs.Prelude.{ℕ, zero, suc, ◌+◌, ◌-◌, ◌*◌, ◌/◌
 use Rattle.words.specs.Bits.{every}
 use Rattle.tables.specs.Grid.{Grid, member_word, common_slots}
 use Rattle.tables.specs.Sides.{crew_of}
-use Rattle.finders.specs.Found.{found_crews, has_members}
+use Rattle.finders.specs.Found.{has_members}
 use Rattle.finders.specs.declared.finder.Finder.{Finder}
 use Rattle.finders.specs.declared.finder.Step.{Step}
 use Rattle.finders.specs.declared.finder.Step.TheVariants.{Worked, Done}
@@ -16,7 +16,7 @@ pub record Finding : Type 0 where
   pub steps : ℕ
 
 abbrev pub finding : Finder → Finding
-finding f = record { found = found_crews f.found; steps = f.worked }
+finding f = record { found = f.found; steps = f.worked }
 
 -- nothing found, and no step worked
 abbrev pub beginning : Finding
@@ -60,6 +60,10 @@ finished g st = nat_le (g.slots + starters g * length st.found) st.steps
 unfoldable pub fresh : Grid → Finding → Option (ℕ × ℕ)
 unfolding wanted
 fresh g st = cond (has_members (wanted g st) st.found) None (crew_of (wanted g st) (common_slots g (wanted g st)))
+
+-- the members that the next step takes, or none where it has nothing left to take
+abbrev pub due : Grid → Finding → Option ℕ
+due g st = cond (finished g st) None (Some (wanted g st))
 
 -- the state after a step that worked and left the crews as told
 abbrev pub stepped : Finding → List (ℕ × ℕ) → Finding

@@ -1,14 +1,8 @@
--- A found list as a list of crews, and what is asked of it. Assumes nothing.
+-- What is asked of a list of crews. Assumes nothing.
 use Rattle.std.specs.Prelude.{ℕ, zero, suc, Bool, false, ◌&&◌, ◌||◌, List, [], ◌∷◌, Some, None, Option, ◌==◌}
 use Rattle.words.specs.Bits.{bit}
 use Rattle.tables.specs.Crews.{kept}
 use Rattle.tables.specs.Firsts.{first}
-use Rattle.finders.specs.Places.{front_crews}
-use Rattle.finders.specs.declared.found.Found.{Found}
-
--- the crews of a found list in the order in which they were found, each as its member word and its slot word
-abbrev pub found_crews : Found → List (ℕ × ℕ)
-found_crews f = front_crews f.places f.used
 
 -- crew number k of a list, counted from 0, or none
 abbrev pub number : {A : Type 0} → List A → ℕ → Option A

@@ -1,6 +1,5 @@
 // The finder: the crews found so far, how many steps have worked, and the most crews that may be found.
 ghost use Rattle.std.specs.Prelude.{◌+◌, ◌*◌, ◌≤◌, length};
-ghost use Rattle.finders.specs.Found.{found_crews};
 
 use crate::found::Found;
 use crate::limit::Limit;
@@ -9,6 +8,7 @@ mod reading;
 mod starters;
 mod stepping;
 
+// Two words and no `bool`: `true` would not say which of the two it is.
 /// What a step that is not refused answers.
 #[derive(Clone, Copy, PartialEq, Eq, Debug)]
 pub enum Step {
@@ -22,6 +22,6 @@ pub struct Finder {
     found: Found,
     worked: u32,
     limit: Limit,
-    ghost within_limit: { length (found_crews found) ≤ limit.crews },
+    ghost within_limit: { length found ≤ limit },
     ghost steps_fit: { worked ≤ 64 + 64 * 512 },
 }

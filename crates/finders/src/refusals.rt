@@ -6,31 +6,27 @@ use words::refusal::Refusal;
 /// A limit that no found list has.
 #[derive(Clone, Copy, PartialEq, Eq, Debug)]
 pub enum LimitRefusal {
-    TooLarge,
+    TooLarge = 4,
 }
 
 impl Refusal for LimitRefusal {
     ghost code = { limit_number };
 
     fn number(&self) -> u8 {
-        match self {
-            LimitRefusal::TooLarge => 4,
-        }
+        *self as u8
     }
 }
 
 /// A step that would find more crews than the limit admits.
 #[derive(Clone, Copy, PartialEq, Eq, Debug)]
 pub enum StepRefusal {
-    Full,
+    Full = 8,
 }
 
 impl Refusal for StepRefusal {
     ghost code = { step_number };
 
     fn number(&self) -> u8 {
-        match self {
-            StepRefusal::Full => 8,
-        }
+        *self as u8
     }
 }

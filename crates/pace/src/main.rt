@@ -35,24 +35,16 @@ fn half_marked(size: Size) -> Marking<BitRoster> {
 
 // Walks the crews and gives their count and the exclusive or of their member words.
 fn walked(session: &mut Listing<BitRoster>) -> (u32, u64) {
-    let mut count = 0u32;
-    let mut mixed = 0u64;
-    for _ in 0..CREWS {
-        if let Some(crew) = session.next() {
-            count = count.saturating_add(1);
-            mixed ^= crew.members();
-        }
-    }
-    (count, mixed)
+    (0..CREWS)
+        .map_while(|_| session.next())
+        .fold((0, 0), |(count, mixed), crew| {
+            (count.saturating_add(1), mixed ^ crew.members())
+        })
 }
 
 fn main(rt: HostRuntime) -> anyhow::Result<()> {
-    let Ok(size) = Size::new(64, 64) else {
-        return Err(anyhow!("no size"));
-    };
-    let Ok(limit) = Limit::new(0) else {
-        return Err(anyhow!("no limit"));
-    };
+    let size = Size::new(64, 64).map_err(|_| anyhow!("no size"))?;
+    let limit = Limit::try_from(0).map_err(|_| anyhow!("no limit"))?;
     let mut session = half_marked(size).close(limit);
     let (count, mixed) = walked(&mut session);
     println!(rt; "{count} crews, mixed {mixed}")?;

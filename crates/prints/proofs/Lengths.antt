@@ -1,17 +1,15 @@
 -- How long the printed lines are at most. Assumes nothing.
-use Rattle.std.proofs.Common.{◌≡◌, ℕ, zero, suc, ◌+◌, ◌-◌, ◌*◌, ◌^◌, ◌<◌, ◌≤◌, List, [], ◌∷◌, length, decimal, sym, ap, ◌∙◌, subst, ⊎_elim, add-one, arith, length-append}
+use Rattle.std.proofs.Common.{◌≡◌, ℕ, zero, suc, ◌+◌, ◌-◌, ◌*◌, ◌<◌, ◌≤◌, List, [], ◌∷◌, length, decimal, sym, ap, ◌∙◌, subst, ⊎_elim, add-one, arith, length-append}
 use Rattle.std.proofs.lemmas.Fmt.{length-decimal-le}
 use Rattle.std.proofs.lemmas.Bool.{cases_Bool, cases_lt}
 use Rattle.tables.specs.declared.refusals.SizeRefusal.TheVariants.{OutOfRange}
 use Rattle.tables.specs.declared.refusals.RosterRefusal.TheVariants.{NoMember, NoSlot, NoPlace}
 use Rattle.words.specs.Bits.{bit}
-use Rattle.prints.specs.Prints.{numbers, commas, set_text, crew_line, tail_line, fault_text}
+use Rattle.prints.specs.Prints.{numbers, commas, set_text}
 use Rattle.texts.specs.Refusals.{cause_number}
-use Rattle.prints.specs.declared.ending.Tail.TheVariants.{End}
 use Rattle.texts.specs.declared.refusals.Cause.{Cause}
 use Rattle.texts.specs.declared.refusals.Cause.TheVariants.{Form, Size, Roster}
-use Rattle.texts.specs.declared.refusals.TextFault.{TextFault}
-use Rattle.prints.proofs.Sets.{comma_after, numbers_lacked, set_text_more, two_digits, twenty_digits}
+use Rattle.prints.proofs.Sets.{comma_after, numbers_lacked, set_text_more, two_digits}
 
 length_comma : (ns : List ℕ) → length (comma_after ns) ≤ 1
 length_comma [] = omega arith
@@ -47,16 +45,9 @@ unfolding commas
 without_last [] h = omega arith
 without_last (n ∷ ns) h = omega arith
 
-length_set_text : (w : ℕ) → length (set_text w) ≤ 181
+pub length_set_text : (w : ℕ) → length (set_text w) ≤ 181
 unfolding set_text
 length_set_text w = without_last (numbers w 64) (with_commas w 64 (omega arith))
-
-pub length_crew_line : (c : ℕ × ℕ) → length (crew_line c) ≤ 366
-unfolding crew_line
-length_crew_line (x, y) = simp length-append (omega (arith, length_set_text x, length_set_text y))
-
-pub length_end : (k : ℕ) → k < 2 ^ 64 → length (tail_line (End k)) ≤ 25
-length_end k fits = simp length-append (omega (arith, twenty_digits k fits))
 
 cause_small : (e : Cause) → cause_number e ≤ 7
 cause_small Form = omega arith
@@ -65,6 +56,6 @@ cause_small (Roster NoMember) = omega arith
 cause_small (Roster NoSlot) = omega arith
 cause_small (Roster NoPlace) = omega arith
 
-pub length_fault_text : (f : TextFault) → f.line < 2 ^ 64 → length (fault_text f) ≤ 34
-length_fault_text f fits =
-    simp length-append (omega (arith, one_digit (cause_number f.cause) (omega (arith, cause_small f.cause)), twenty_digits f.line fits))
+-- the number of a cause is one digit
+pub cause_digit : (e : Cause) → length (decimal (cause_number e)) ≤ 1
+cause_digit e = one_digit (cause_number e) (omega (arith, cause_small e))

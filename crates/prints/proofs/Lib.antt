@@ -1,4 +1,3 @@
-pub mod Drafts
 pub mod Lengths
 pub mod PrintLaws
 pub mod Sets

@@ -24,6 +24,9 @@ unfolding numbers
 all_held w zero = tt
 all_held w (suc n) = held_step (bit w n) w n (numbers w n) refl (all_held w n)
 
+pub numbers_small : (w n : ℕ) → AllByRecursion (λ i. i < n) (numbers w n)
+numbers_small w n = All-weaker (Held w n) (λ i. i < n) (λ i h. h.0) (numbers w n) (all_held w n)
+
 every_held : (w n i : ℕ) → i < n → bit w i ≡ true → ContainsAt (numbers w n) i
 unfolding numbers
 every_held w zero i h held = absurd (omega arith)

@@ -1,7 +1,7 @@
 // Print: a crew, how a list of crews ends, or a fault, each as a line of bytes in a caller's buffer.
 #![tactic(auto)]
 
-mod draft;
 pub mod ending;
+pub mod line;
 pub mod print;
 pub mod refusals;

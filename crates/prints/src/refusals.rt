@@ -6,15 +6,13 @@ use words::refusal::Refusal;
 /// A buffer that a print does not fit.
 #[derive(Clone, Copy, PartialEq, Eq, Debug)]
 pub enum BufferRefusal {
-    TooShort,
+    TooShort = 6,
 }
 
 impl Refusal for BufferRefusal {
     ghost code = { buffer_number };
 
     fn number(&self) -> u8 {
-        match self {
-            BufferRefusal::TooShort => 6,
-        }
+        *self as u8
     }
 }

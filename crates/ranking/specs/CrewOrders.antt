@@ -1,17 +1,18 @@
--- The laws of the orders of lines that are made of crews. Assumes nothing.
+-- The laws of the orders of crews. Assumes nothing.
 use mathlib.Core.HLevel.{is_prop→PathP}
 use Rattle.std.proofs.Math.Bridge.{le_prop}
-use Rattle.std.specs.Prelude.{◌≡◌, ◌^◌, ◌<◌}
-use Rattle.std.proofs.Common.{ap}
+use Rattle.std.specs.Prelude.{◌≡◌, ℕ, ◌^◌, ◌<◌, true, ◌&&◌, ◌==◌}
+use Rattle.std.proofs.Common.{sym, ap, ◌∙◌}
+use Rattle.std.proofs.lemmas.Bool.{eqb-true, eq-eqb}
+use Rattle.std.specs.declared.cmp.Ordering.{Ordering}
+use Rattle.std.specs.declared.cmp.Ordering.TheVariants.{Equal}
+use Rattle.std.specs.Cmp.{IsTotalOrder, Equal-is, both_ways, first_so, second_so, tied_itself, nat_cmp_total, on_total, back_total, then_total}
+use Rattle.std.specs.Ordering.{is_eq, nat_cmp, on, flip_args}
 use Rattle.words.specs.Order.{word_order}
-use Rattle.words.proofs.WordOrder.{word_order_same}
+use Rattle.words.proofs.WordOrder.{word_order_same, word_order_turned, word_order_chain}
 use Rattle.tables.specs.declared.crew.Crew.{Crew}
-use Rattle.boards.specs.Orders.{Laws, number_order}
-use Rattle.boards.proofs.Composed.{number_laws, ranks_by, ranks_by_word, ranks_back, ranks_then, both_equal, laws_from}
-use Rattle.ranking.specs.Made.{crew_line, seat_line}
-use Rattle.ranking.specs.Orders.{crew_order, crew_line_order, seats_of, seat_line_order}
-use Rattle.ranking.specs.declared.crew_line.CrewLine.{CrewLine}
-use Rattle.ranking.specs.declared.seat_line.SeatLine.{SeatLine}
+use Rattle.boards.specs.Orders.{Laws, laws_of_total, both_equal}
+use Rattle.ranking.specs.Orders.{crew_order, seats_of, seat_order}
 
 -- two crews with the same words are one
 pub same_crew : (x y : Crew) → x.members ≡ y.members → x.slots ≡ y.slots → x ≡ y
@@ -24,27 +25,40 @@ same_crew x y p q j = record {
   slots_fit = is_prop→PathP (λ k. q k < 2 ^ 64) (λ k. le_prop) x.slots_fit y.slots_fit j;
 }
 
-pub crew_laws : Laws crew_order
-crew_laws =
-    let by_members = λ (x : Crew) (y : Crew). word_order x.members y.members in
-    let by_slots = λ (x : Crew) (y : Crew). word_order x.slots y.slots in
-    laws_from crew_order
-    (ranks_then by_members by_slots (ranks_by_word (λ x. x.members) (λ x. x.members_fit)) (ranks_by_word (λ x. x.slots) (λ x. x.slots_fit)))
-    (λ x y e.
-    let (p, q) = both_equal by_members by_slots x y e in
+-- by a part that is a word
+by_word : (part : Crew → ℕ) → ((c : Crew) → part c < 2 ^ 64) → IsTotalOrder (on part word_order)
+by_word part fits = record {
+  antisymm = λ x y. word_order_turned (part y) (part x);
+  trans = λ x y z. word_order_chain (part x) (part y) (part z);
+  congr = λ x y z e. ap (λ k. word_order k (part z)) (word_order_same (part x) (part y) (fits x) (fits y) e);
+}
+
+pub crew_total : IsTotalOrder crew_order
+crew_total = then_total (by_word (λ c. c.members) (λ c. c.members_fit)) (by_word (λ c. c.slots) (λ c. c.slots_fit))
+
+pub crew_same : (x y : Crew) → crew_order x y ≡ Equal → x ≡ y
+crew_same x y e =
+    let (p, q) = both_equal (on (λ c. c.members) word_order) (on (λ c. c.slots) word_order) x y e in
     same_crew x y
     (word_order_same x.members y.members x.members_fit y.members_fit p)
-    (word_order_same x.slots y.slots x.slots_fit y.slots_fit q))
+    (word_order_same x.slots y.slots x.slots_fit y.slots_fit q)
 
-pub crew_line_laws : Laws crew_line_order
-crew_line_laws =
-    laws_from crew_line_order (ranks_by (λ (x : CrewLine). x.crew) crew_order crew_laws) (λ x y e. ap crew_line (crew_laws.same x.crew y.crew e))
+pub crew_laws : Laws crew_order
+crew_laws = laws_of_total crew_total crew_same
 
-pub seat_line_laws : Laws seat_line_order
-seat_line_laws =
-    let by_seats = λ (x : SeatLine) (y : SeatLine). number_order (seats_of x.crew) (seats_of y.crew) in
-    let more-seats = λ (x : SeatLine) (y : SeatLine). by_seats y x in
-    let by-crew = λ (x : SeatLine) (y : SeatLine). crew_order x.crew y.crew in
-    laws_from seat_line_order
-    (ranks_then more-seats by-crew (ranks_back by_seats (ranks_by (λ (x : SeatLine). seats_of x.crew) number_order number_laws)) (ranks_by (λ (x : SeatLine). x.crew) crew_order crew_laws))
-    (λ x y e. ap seat_line (crew_laws.same x.crew y.crew (both_equal more-seats by-crew x y e).1))
+pub seat_total : IsTotalOrder seat_order
+seat_total = then_total (back_total (on_total seats_of nat_cmp_total)) crew_total
+
+pub seat_same : (x y : Crew) → seat_order x y ≡ Equal → x ≡ y
+seat_same x y e = crew_same x y (both_equal (flip_args (on seats_of nat_cmp)) crew_order x y e).1
+
+-- `==` on crews is how such an order tells them apart
+pub tells_apart : {order : Crew → Crew → Ordering} → IsTotalOrder order → ((x y : Crew) → order x y ≡ Equal → x ≡ y)
+    → (x y : Crew) → ((x.members == y.members && x.slots == y.slots) && true) ≡ is_eq (order x y)
+tells_apart {order} total same x y =
+    both_ways _ _
+    (λ e. let both = first_so _ _ e in
+    let one = same_crew x y (eqb-true _ _ (first_so (x.members == y.members) _ both)) (eqb-true _ _ (second_so (x.members == y.members) _ both)) in
+    ap is_eq (ap (order x) (sym one) ∙ tied_itself total x))
+    (λ e. let one = same x y ((Equal-is (order x y)).0 e) in
+    rw (eq-eqb x.members y.members (ap (λ c. c.members) one), eq-eqb x.slots y.slots (ap (λ c. c.slots) one)))

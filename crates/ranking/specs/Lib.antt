@@ -1,4 +1,5 @@
+pub mod CrewLines
+pub mod CrewOrders
 pub mod Made
 pub mod Orders
 pub mod Worked
-pub mod CrewOrders

@@ -11,8 +11,7 @@ use Rattle.finders.specs.declared.finder.Step.{Step}
 use Rattle.finders.specs.declared.finder.Step.TheVariants.{Worked, Done}
 use Rattle.finders.specs.declared.refusals.StepRefusal.{StepRefusal}
 use Rattle.finders.specs.declared.refusals.StepRefusal.TheVariants.{Full}
-use Rattle.ranking.specs.Orders.{seat_line_order}
-use Rattle.ranking.specs.declared.seat_line.SeatLine.{SeatLine}
+use Rattle.ranking.specs.CrewLines.{SeatLine, seat_line, seat_line_order}
 
 -- whether (i, j) is the pair of member a and slot b
 abbrev pub pair : ℕ → ℕ → ℕ → ℕ → Bool
@@ -34,16 +33,16 @@ answer_after limit n = step_answer worked_table limit (reached worked_table limi
 
 -- the seat line of two words that make a crew
 abbrev pub line : (x y : ℕ) → T (nat_lt 0 x) → T (nat_lt 0 y) → T (nat_lt x (2 ^ 64)) → T (nat_lt y (2 ^ 64)) → SeatLine
-line x y a b c d = record {
-  crew = record {
-    members = x;
-    slots = y;
-    some_member = ltb→lt 0 x a;
-    some_slot = ltb→lt 0 y b;
-    members_fit = ltb→lt x (2 ^ 64) c;
-    slots_fit = ltb→lt y (2 ^ 64) d;
-  };
-}
+line x y a b c d =
+    seat_line
+    record {
+      members = x;
+      slots = y;
+      some_member = ltb→lt 0 x a;
+      some_slot = ltb→lt 0 y b;
+      members_fit = ltb→lt x (2 ^ 64) c;
+      slots_fit = ltb→lt y (2 ^ 64) d;
+    }
 
 pub record WorkedTable : Type 0 where
   -- its crews in crew order

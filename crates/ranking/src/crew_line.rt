@@ -1,21 +1,19 @@
 // The crew line: a crew in crew order; lines with equal members go by their slots.
 ghost use Rattle.std.specs.Prelude.{◌≡◌};
-ghost use Rattle.ranking.specs.Made.{crew_line, crew_line_told};
-ghost use Rattle.ranking.specs.Orders.{crew_order, crew_line_order};
-ghost use Rattle.ranking.specs.CrewOrders.{crew_line_laws};
-ghost use Rattle.std.proofs.Common.{rules};
+ghost use Rattle.ranking.specs.Orders.{crew_order};
+ghost use Rattle.ranking.specs.CrewOrders.{crew_total, crew_same};
 
-use crate::crew_made::CrewMade;
-use boards::line::Line;
+use crate::ranked::{Ranked, Ranking};
 use std::cmp::Ordering;
 use tables::crew::Crew;
 use words::order::compare;
 
+/// Crew order.
+#[derive(Clone, Copy)]
+pub struct CrewOrder;
+
 /// A crew as a line in crew order.
-#[derive(Clone, Copy, PartialEq, Eq, Debug)]
-pub struct CrewLine {
-    crew: Crew,
-}
+pub type CrewLine = Ranked<CrewOrder>;
 
 /// How crew `a` stands to crew `b`: by the member words, and by the slot words where these are equal.
 pub fn compare_crews(a: &Crew, b: &Crew) -> Ordering
@@ -24,30 +22,14 @@ pub fn compare_crews(a: &Crew, b: &Crew) -> Ordering
     compare(a.members(), b.members()).then(compare(a.slots(), b.slots()))
 }
 
-impl Line for CrewLine {
-    ghost order = { crew_line_order };
+impl Ranking for CrewOrder {
+    ghost order = { crew_order };
 
-    ghost lawful = { crew_line_laws };
+    ghost total = { crew_total };
 
-    fn compare(&self, other: &CrewLine) -> Ordering {
-        compare_crews(&self.crew, &other.crew)
-    }
-}
+    ghost same = { crew_same };
 
-impl CrewMade for CrewLine {
-    ghost made = { crew_line };
-
-    ghost told = { crew_line_told };
-
-    ghost back = { Prim.search rules };
-
-    ghost again = { Prim.search rules };
-
-    fn of(crew: &Crew) -> CrewLine {
-        CrewLine { crew: *crew }
-    }
-
-    fn crew(&self) -> Crew {
-        self.crew
+    fn compare(a: &Crew, b: &Crew) -> Ordering {
+        compare_crews(a, b)
     }
 }

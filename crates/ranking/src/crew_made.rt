@@ -5,6 +5,7 @@ ghost use Rattle.tables.specs.declared.crew.Crew.{Crew};
 use boards::line::Line;
 use tables::crew::Crew;
 
+// Not `From` and `Into`, which say what results there may be: the laws are about the one line of a crew and the one crew of a line.
 /// A kind of line that is made from a crew alone, the same at every making.
 pub trait CrewMade: Line {
     // The line of a crew, and the crew of a line.

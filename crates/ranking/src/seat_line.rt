@@ -1,21 +1,19 @@
 // The seat line: the crew with more seats comes first; ties go as in the crew line.
 ghost use Rattle.std.specs.Prelude.{◌≡◌};
-ghost use Rattle.ranking.specs.Made.{seat_line, seat_line_told};
-ghost use Rattle.ranking.specs.Orders.{seats_of, seat_line_order};
-ghost use Rattle.ranking.specs.CrewOrders.{seat_line_laws};
-ghost use Rattle.std.proofs.Common.{rules};
+ghost use Rattle.ranking.specs.Orders.{seats_of, seat_order};
+ghost use Rattle.ranking.specs.CrewOrders.{seat_total, seat_same};
 
 use crate::crew_line::compare_crews;
-use crate::crew_made::CrewMade;
-use boards::line::Line;
+use crate::ranked::{Ranked, Ranking};
 use std::cmp::Ordering;
 use tables::crew::Crew;
 
+/// The order by seats.
+#[derive(Clone, Copy)]
+pub struct SeatOrder;
+
 /// A crew as a line by its seats.
-#[derive(Clone, Copy, PartialEq, Eq, Debug)]
-pub struct SeatLine {
-    crew: Crew,
-}
+pub type SeatLine = Ranked<SeatOrder>;
 
 /// The seats of a crew: its members times its slots.
 pub fn seats(crew: &Crew) -> u32
@@ -24,31 +22,14 @@ pub fn seats(crew: &Crew) -> u32
     crew.members().count_ones() * crew.slots().count_ones()
 }
 
-impl Line for SeatLine {
-    ghost order = { seat_line_order };
+impl Ranking for SeatOrder {
+    ghost order = { seat_order };
 
-    ghost lawful = { seat_line_laws };
+    ghost total = { seat_total };
 
-    fn compare(&self, other: &SeatLine) -> Ordering {
-        let by_seats = seats(&other.crew).cmp(&seats(&self.crew));
-        by_seats.then(compare_crews(&self.crew, &other.crew))
-    }
-}
+    ghost same = { seat_same };
 
-impl CrewMade for SeatLine {
-    ghost made = { seat_line };
-
-    ghost told = { seat_line_told };
-
-    ghost back = { Prim.search rules };
-
-    ghost again = { Prim.search rules };
-
-    fn of(crew: &Crew) -> SeatLine {
-        SeatLine { crew: *crew }
-    }
-
-    fn crew(&self) -> Crew {
-        self.crew
+    fn compare(a: &Crew, b: &Crew) -> Ordering {
+        seats(b).cmp(&seats(a)).then(compare_crews(a, b))
     }
 }

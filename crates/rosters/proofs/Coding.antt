@@ -1,5 +1,6 @@
 -- What one code more or less does to the places of a list roster, and the words that its codes spell. Assumes nothing.
-use Rattle.std.proofs.Common.{◌≡◌, ℕ, ◌+◌, ◌-◌, ◌*◌, ◌/◌, ◌%◌, ◌^◌, ◌<◌, ◌≤◌, Bool, true, false, cond, ◌&&◌, ◌||◌, eqb, ltb, leb, ◌⊎◌, List, get_or, Decides, sym, refl, ap, ◌∙◌, subst, ap₂, inl, inr, ⊎_elim, lt_of_lt_of_le, add-one, arith, pow_mono}
+use Rattle.std.proofs.Common.{◌≡◌, length, take, ℕ, ◌+◌, ◌-◌, ◌*◌, ◌/◌, ◌%◌, ◌^◌, ◌<◌, ◌≤◌, Bool, true, false, cond, ◌&&◌, ◌||◌, eqb, ltb, leb, ◌⊎◌, List, get_or, Decides, sym, refl, ap, ◌∙◌, subst, ap₂, inl, inr, ⊎_elim, lt_of_lt_of_le, add-one, arith, pow_mono}
+use Rattle.std.proofs.lemmas.List.{get_or-take, length-take-le}
 use mathlib.Core.Path.{fun_ext}
 use lib.Bits.{bit_or, or_lt}
 use lib.Pow.{pow-lt}
@@ -18,6 +19,16 @@ unfolding some
 listed_tells used places c =
     Decides-below_or (λ k. eqb (get_or places k 0) c) (λ k. get_or places k 0 ≡ c) (some (λ k. eqb (get_or places k 0) c))
     (λ k. (eqb-true (get_or places k 0) c, eq-eqb (get_or places k 0) c)) refl (λ _. refl) used
+
+-- the codes in use, cut from the places
+module _ (places codes : List ℕ) (used : ℕ) (fits : used ≤ length places) (cut : codes ≡ take used places) where
+  pub in_use_long : length codes ≡ used
+  in_use_long = ap length cut ∙ length-take-le used places fits
+
+  pub in_use_code : (k : ℕ) → k < length codes → (k < used) × (get_or codes k 0 ≡ get_or places k 0)
+  in_use_code k h =
+      let within : k < used = subst (λ n. k < n) in_use_long h in
+      (within, ap (λ l. get_or l k 0) cut ∙ get_or-take used places k 0 within)
 
 -- one place more
 pub listed_more : (used : ℕ) (places : List ℕ) (c : ℕ) → listed (used + 1) places c ≡ (eqb (get_or places used 0) c || listed used places c)

@@ -123,11 +123,3 @@ mirrored_none k i j = held_none k j i ∙ sym (held_none k i j)
 
 pub counted_none : (n m k : ℕ) → Counted n m (replicate k 0) (n * m)
 counted_none n m k = let none = marks_none n m (held (replicate k 0)) (held_none k) in omega arith
-
--- ---- numbers that are no member or no slot
-
-pub held_past : (n m : ℕ) (rows : List ℕ) (i j : ℕ) → Inside n m rows → n ≤ i → held rows i j ≡ false
-held_past n m rows i j inside past = ⊎_elim (λ e. let h = (inside i j e).0 in absurd (omega arith)) (λ e. e) (cases_Bool (held rows i j))
-
-pub held_behind : (n m : ℕ) (rows : List ℕ) (i j : ℕ) → Inside n m rows → m ≤ j → held rows i j ≡ false
-held_behind n m rows i j inside past = ⊎_elim (λ e. let h = (inside i j e).1 in absurd (omega arith)) (λ e. e) (cases_Bool (held rows i j))

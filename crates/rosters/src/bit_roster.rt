@@ -12,7 +12,7 @@ pub mod table;
 #[derive(Drop)]
 pub struct BitRoster {
     size: Size,
-    // the slot word of each member
+    // the slot word of each member; two arrays of a fixed size, since no heap is used and a question is to cost no more than reading a word
     rows: [u64; 64],
     // the member word of each slot
     columns: [u64; 64],

@@ -6,8 +6,8 @@ use Rattle.tables.specs.Grid.{Grid}
 use Rattle.tables.specs.Sides.{sides}
 use Rattle.tables.specs.declared.crew.Crew.{Crew}
 use Rattle.finders.specs.Found.{covers, covering}
-use Rattle.sessions.specs.declared.refusals.PlaceRefusal.{PlaceRefusal}
-use Rattle.sessions.specs.declared.refusals.PlaceRefusal.TheVariants.{NoMember, NoSlot}
+use Rattle.tables.specs.declared.places.PlaceRefusal.{PlaceRefusal}
+use Rattle.tables.specs.declared.places.PlaceRefusal.TheVariants.{NoMember, NoSlot}
 
 -- the crew that was given by its words, or why none was asked for
 abbrev pub told_cover : Result (Option Crew) PlaceRefusal → Result (Option (ℕ × ℕ)) PlaceRefusal

@@ -1,4 +1,3 @@
 pub mod Cover
 pub mod FindAll
-pub mod Refusals
 pub mod Tours

@@ -3,5 +3,4 @@
 
 pub mod listing;
 pub mod marking;
-pub mod refusals;
 pub mod tour;

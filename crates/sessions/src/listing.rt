@@ -11,16 +11,17 @@ ghost use Rattle.sessions.specs.Cover.{told_cover, cover_answer, GivesCover};
 ghost use Rattle.std.proofs.Common.{rules};
 
 use crate::marking::Marking;
-use crate::refusals::PlaceRefusal;
 use finders::finder::{Finder, Step};
 use finders::limit::Limit;
 use finders::refusals::StepRefusal;
 use tables::crew::Crew;
+use tables::places::PlaceRefusal;
 use tables::table::{Roster, Table};
 use walks::walk::Walk;
 
 mod searching;
 
+// What a call leaves as it was, of table, walk and finder, is said of each call that changes something: it is about two values, so no type can say it.
 /// A session that gives the crews of its table.
 #[derive(Drop)]
 pub struct Listing<T> {
@@ -33,7 +34,7 @@ impl<T: Table> Listing<T> {
     /// A listing session of any table, with the walk and the finder at their start.
     pub fn browse(table: T, limit: Limit) -> Listing<T>
         ensures table { result.table ≡ table }
-        ensures start { result.walk.position ≡ 2 ^ 64 - 1 }
+        ensures start { result.walk ≡ 2 ^ 64 - 1 }
         ensures beginning { finding result.finder ≡ beginning }
         ensures limit { result.finder.limit ≡ limit }
     {
@@ -46,9 +47,9 @@ impl<T: Table> Listing<T> {
 
     /// The first crew ahead, moving just past it, or none.
     pub fn next(&mut self) -> Option<Crew>
-        ensures answer { option_map sides result ≡ first (ahead (T.Table.grid self.old.table) self.old.walk.position) }
-        ensures ahead { ahead (T.Table.grid self.old.table) self.new.walk.position ≡ rest (ahead (T.Table.grid self.old.table) self.old.walk.position) }
-        ensures moved { self.new.walk.position ≡ past result self.old.walk.position }
+        ensures answer { option_map sides result ≡ first (ahead (T.Table.grid self.old.table) self.old.walk) }
+        ensures ahead { ahead (T.Table.grid self.old.table) self.new.walk ≡ rest (ahead (T.Table.grid self.old.table) self.old.walk) }
+        ensures moved { self.new.walk ≡ past result self.old.walk }
         ensures table { self.new.table ≡ self.old.table }
         ensures finder { self.new.finder ≡ self.old.finder }
     {
@@ -57,7 +58,7 @@ impl<T: Table> Listing<T> {
 
     /// Goes back to the start, so that every crew is ahead.
     pub fn rewind(&mut self)
-        ensures start { self.new.walk.position ≡ 2 ^ 64 - 1 }
+        ensures start { self.new.walk ≡ 2 ^ 64 - 1 }
         ensures table { self.new.table ≡ self.old.table }
         ensures finder { self.new.finder ≡ self.old.finder }
     {
@@ -66,7 +67,7 @@ impl<T: Table> Listing<T> {
 
     /// Goes to the first crew whose member word is not before `word`.
     pub fn seek(&mut self, word: u64)
-        ensures position { self.new.walk.position ≡ word }
+        ensures position { self.new.walk ≡ word }
         ensures table { self.new.table ≡ self.old.table }
         ensures finder { self.new.finder ≡ self.old.finder }
     {
@@ -82,8 +83,8 @@ impl<T: Table> Listing<T> {
 
     /// Works one step of the finder: it adds at most one crew, or is refused where the limit admits no more, or is done.
     pub fn step(&mut self) -> Result<Step, StepRefusal>
-        ensures answer { result ≡ step_answer (T.Table.grid self.old.table) self.old.finder.limit.crews (finding self.old.finder) }
-        ensures after { finding self.new.finder ≡ after_step (T.Table.grid self.old.table) self.old.finder.limit.crews (finding self.old.finder) }
+        ensures answer { result ≡ step_answer (T.Table.grid self.old.table) self.old.finder.limit (finding self.old.finder) }
+        ensures after { finding self.new.finder ≡ after_step (T.Table.grid self.old.table) self.old.finder.limit (finding self.old.finder) }
         ensures limit { self.new.finder.limit ≡ self.old.finder.limit }
         ensures table { self.new.table ≡ self.old.table }
         ensures walk { self.new.walk ≡ self.old.walk }
@@ -112,17 +113,13 @@ impl<T: Table> Listing<T> {
         self.finder.found(k)
     }
 
+    // A member and a slot are two numbers, as in every call of the console.
     /// A found crew that has the member and the slot, or none; refused for a number that is no member, then for one that is no slot.
     pub fn cover(&self, member: u8, slot: u8) -> Result<Option<Crew>, PlaceRefusal>
         ensures answer { told_cover result ≡ cover_answer (T.Table.grid self.now.table) (finding self.now.finder).found member slot }
         ensures covers { GivesCover (finding self.now.finder).found member slot (told_cover result) }
     {
-        if member >= self.table.members() {
-            return Err(PlaceRefusal::NoMember);
-        }
-        if slot >= self.table.slots() {
-            return Err(PlaceRefusal::NoSlot);
-        }
+        self.table.check_place(member, slot)?;
         Ok(self.finder.covering(member, slot))
     }
 }
@@ -141,6 +138,7 @@ impl<R: Roster> Listing<R> {
     }
 }
 
+// A listing session answers as its table does. The calls are handed on one by one, here and for a marking session: nothing shorter hands on a trait.
 impl<T: Table> Table for Listing<T> {
     ghost grid = { λ s. T.Table.grid s.table };
 

@@ -1,6 +1,6 @@
 // A marking session: a roster that takes marks until it is closed.
 ghost use Rattle.std.specs.Prelude.{◌≡◌, ◌-◌, ◌^◌};
-ghost use Rattle.tables.specs.Sheet.{sheet, marking, after_mark, clearing, after_clear};
+ghost use Rattle.tables.specs.Sheet.{marking, after_mark, clearing, after_clear};
 ghost use Rattle.finders.specs.Finder.{finding, beginning};
 ghost use Rattle.std.proofs.Common.{rules};
 
@@ -23,18 +23,19 @@ impl<R: Roster> Marking<R> {
         Marking { roster }
     }
 
+    // A member and a slot are two numbers, as in every call of the console.
     /// Marks the pair of `member` and `slot` on the roster.
     pub fn mark(&mut self, member: u8, slot: u8) -> Result<(), RosterRefusal>
-        ensures answer { result ≡ marking (sheet (R.Table.grid self.old.roster) (R.Roster.free self.old.roster)) member slot }
-        ensures after { sheet (R.Table.grid self.new.roster) (R.Roster.free self.new.roster) ≡ after_mark (sheet (R.Table.grid self.old.roster) (R.Roster.free self.old.roster)) member slot }
+        ensures answer { result ≡ marking (R.Roster.sheet self.old.roster) member slot }
+        ensures after { R.Roster.sheet self.new.roster ≡ after_mark (R.Roster.sheet self.old.roster) member slot }
     {
         self.roster.mark(member, slot)
     }
 
     /// Clears the pair of `member` and `slot` on the roster.
     pub fn clear(&mut self, member: u8, slot: u8) -> Result<(), RosterRefusal>
-        ensures answer { result ≡ clearing (sheet (R.Table.grid self.old.roster) (R.Roster.free self.old.roster)) member slot }
-        ensures after { sheet (R.Table.grid self.new.roster) (R.Roster.free self.new.roster) ≡ after_clear (sheet (R.Table.grid self.old.roster) (R.Roster.free self.old.roster)) member slot }
+        ensures answer { result ≡ clearing (R.Roster.sheet self.old.roster) member slot }
+        ensures after { R.Roster.sheet self.new.roster ≡ after_clear (R.Roster.sheet self.old.roster) member slot }
     {
         self.roster.clear(member, slot)
     }
@@ -42,7 +43,7 @@ impl<R: Roster> Marking<R> {
     /// The listing session of the same roster, with the walk and the finder at their start.
     pub fn close(self, limit: Limit) -> Listing<R>
         ensures table { result.table ≡ self.roster }
-        ensures start { result.walk.position ≡ 2 ^ 64 - 1 }
+        ensures start { result.walk ≡ 2 ^ 64 - 1 }
         ensures beginning { finding result.finder ≡ beginning }
         ensures limit { result.finder.limit ≡ limit }
     {
@@ -51,6 +52,7 @@ impl<R: Roster> Marking<R> {
     }
 }
 
+// A marking session answers as its roster does, call by call, as a listing session hands on those of its table.
 impl<R: Roster> Table for Marking<R> {
     ghost grid = { λ s. R.Table.grid s.roster };
 

@@ -13,7 +13,7 @@ use tables::table::Table;
 /// Rewinds the session and writes the answer of one `next` after another into the places, from the first on: the crews in crew order, and then none.
 pub fn list_into<T: Table>(session: &mut Listing<T>, places: &mut [Option<Crew>])
     ensures answers { map (option_map sides) places.new ≡ in_turn (length places.old) (crews (T.Table.grid session.old.table)) }
-    ensures left { ahead (T.Table.grid session.old.table) session.new.walk.position ≡ drop (length places.old) (crews (T.Table.grid session.old.table)) }
+    ensures left { ahead (T.Table.grid session.old.table) session.new.walk ≡ drop (length places.old) (crews (T.Table.grid session.old.table)) }
     ensures every_crew_is_reached { ReachesEachCrew (T.Table.grid session.old.table) (map (option_map sides) places.new) }
     ensures crews_are_listed { ListsTheCrews (T.Table.grid session.old.table) (crews (T.Table.grid session.old.table)) }
     ensures table { session.new.table ≡ session.old.table }

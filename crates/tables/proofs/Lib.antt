@@ -6,5 +6,6 @@ pub mod Greedy
 pub mod GreedyWalk
 pub mod Intersections
 pub mod Listed
+pub mod Placing
 pub mod Sharing
 pub mod Sides

@@ -1,6 +1,8 @@
 -- What a roster means, a grid with free places, and what mark and clear do to it. Assumes nothing.
 use Rattle.std.specs.Prelude.{ℕ, ◌+◌, ◌-◌, Bool, true, false, cond, ◌&&◌, ◌||◌, is_ok, Ok, Err, Result, ◌==◌, nat_lt}
 use Rattle.tables.specs.Grid.{Grid}
+use Rattle.tables.specs.declared.places.PlaceRefusal.{PlaceRefusal}
+use Rattle.tables.specs.declared.places.PlaceRefusal.TheVariants as place
 use Rattle.tables.specs.declared.refusals.RosterRefusal.{RosterRefusal}
 use Rattle.tables.specs.declared.refusals.RosterRefusal.TheVariants.{NoMember, NoSlot, NoPlace}
 
@@ -18,6 +20,10 @@ with_pair g i j told = record {
   slots = g.slots;
   marked = λ a b. cond (a == i && b == j) told (g.marked a b);
 }
+
+-- whether a grid has the place of member i and slot j: refused where i is no member, then where j is no slot
+abbrev pub placing : Grid → ℕ → ℕ → Result (Unit {0}) PlaceRefusal
+placing g i j = cond (nat_lt i g.members) (cond (nat_lt j g.slots) (Ok tt) (Err place.NoSlot)) (Err place.NoMember)
 
 -- the answer of mark
 abbrev pub marking : Sheet → ℕ → ℕ → Result (Unit {0}) RosterRefusal

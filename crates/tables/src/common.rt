@@ -3,6 +3,7 @@ ghost use Rattle.std.specs.Prelude.{◌≡◌};
 ghost use Rattle.tables.specs.Grid.{common_slots, common_members};
 
 use crate::table::Table;
+use crate::turned::Turned;
 use words::sets::{below, holds};
 
 /// The slots marked for every member of the word: none for no members, and none where a number of it is no member.
@@ -13,28 +14,15 @@ pub fn common_slots<T: Table>(table: &T, members: u64) -> u64
     if members == 0 || members > below(count) {
         return 0;
     }
-    let mut shared = below(table.slots());
-    for i in 0..count {
-        if holds(members, i) {
-            shared &= table.slot_word(i);
-        }
-    }
-    shared
+    (0..count).filter(|i| holds(members, *i)).fold(
+        below(table.slots()),
+        |shared, i| shared & table.slot_word(i),
+    )
 }
 
 /// The members marked in every slot of the word: none for no slots, and none where a number of it is no slot.
 pub fn common_members<T: Table>(table: &T, slots: u64) -> u64
     ensures { result ≡ common_members (T.Table.grid table.now) slots }
 {
-    let count = table.slots();
-    if slots == 0 || slots > below(count) {
-        return 0;
-    }
-    let mut shared = below(table.members());
-    for j in 0..count {
-        if holds(slots, j) {
-            shared &= table.member_word(j);
-        }
-    }
-    shared
+    common_slots(&Turned::new(table), slots)
 }

@@ -4,6 +4,8 @@
 pub mod bicliques;
 pub mod common;
 pub mod crew;
+pub mod places;
 pub mod refusals;
 pub mod size;
 pub mod table;
+pub mod turned;

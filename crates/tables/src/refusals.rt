@@ -6,35 +6,29 @@ use words::refusal::Refusal;
 /// A size that no table has.
 #[derive(Clone, Copy, PartialEq, Eq, Debug)]
 pub enum SizeRefusal {
-    OutOfRange,
+    OutOfRange = 3,
 }
 
 impl Refusal for SizeRefusal {
     ghost code = { size_number };
 
     fn number(&self) -> u8 {
-        match self {
-            SizeRefusal::OutOfRange => 3,
-        }
+        *self as u8
     }
 }
 
 /// A change that a roster does not take.
 #[derive(Clone, Copy, PartialEq, Eq, Debug)]
 pub enum RosterRefusal {
-    NoMember,
-    NoSlot,
-    NoPlace,
+    NoMember = 1,
+    NoSlot = 2,
+    NoPlace = 7,
 }
 
 impl Refusal for RosterRefusal {
     ghost code = { roster_number };
 
     fn number(&self) -> u8 {
-        match self {
-            RosterRefusal::NoMember => 1,
-            RosterRefusal::NoSlot => 2,
-            RosterRefusal::NoPlace => 7,
-        }
+        *self as u8
     }
 }

@@ -1,38 +1,54 @@
--- Where the first byte of a kind stands, and what is cut there. Assumes nothing.
-use Rattle.std.proofs.Common.{◌≡◌, ℕ, zero, suc, ◌<◌, eqb, List, [], ◌∷◌, length, get_or, take, drop, sym, refl, ap, ◌∙◌, arith, eq-eqb}
-use Rattle.std.proofs.lemmas.Bool.{ne_eqb, cond-true, cond-false}
+-- What is cut at the place of the first byte of a kind. Assumes nothing.
+use Rattle.std.proofs.Common.{◌≡◌, ℕ, suc, ◌+◌, ◌==◌, Bool, true, false, not, cond, ltb, List, [], ◌∷◌, length, take, drop, Some, None, sym, refl, ap, ◌∙◌, ⊎_elim, arith}
+use Rattle.std.specs.List.{position, position_or_len}
+use Rattle.std.proofs.lemmas.Bool.{cases_lt, cond-true, cond-false, lt-ltb, le-ltb}
+use Rattle.std.proofs.lemmas.List.{take_all, drop_all}
 use Rattle.texts.specs.Splits.{up_to, behind}
 
--- no byte before place i is the mark
-abbrev pub Unmarked : ℕ → List ℕ → ℕ → Type 0
-Unmarked mark bs i = (k : ℕ) → k < i → get_or bs k 0 ≡ mark → ⊥
+-- the place of the first mark, or the length
+abbrev place : ℕ → List ℕ → ℕ
+place mark bs = position_or_len (λ b. b == mark) bs
 
-pub up_to_first : (mark : ℕ) (bs : List ℕ) (i : ℕ) → i < length bs → Unmarked mark bs i → get_or bs i 0 ≡ mark → take i bs ≡ up_to mark bs
+up_to_step : (b : ℕ) (bs front : List ℕ) (n : ℕ) (t : Bool) → take n bs ≡ front → take (cond (not t) (1 + n) 0) (b ∷ bs) ≡ cond t [] (b ∷ front)
+up_to_step b bs front n true is = refl
+up_to_step b bs front n false is = let one : 1 + n ≡ suc n = omega arith in ap (λ k. take k (b ∷ bs)) one ∙ ap (λ l. b ∷ l) is
+
+up_to_place : (mark : ℕ) (bs : List ℕ) → take (place mark bs) bs ≡ up_to mark bs
 unfolding up_to
-up_to_first mark [] i h none is = absurd (omega arith)
-up_to_first mark (b ∷ bs) zero h none is = sym (cond-true (eqb b mark) _ _ (eq-eqb b mark is))
-up_to_first mark (b ∷ bs) (suc i) h none is =
-    ap (λ l. b ∷ l) (up_to_first mark bs i (omega arith) (λ k lt. none (suc k) (omega arith)) is)
-    ∙ sym (cond-false (eqb b mark) _ _ (ne_eqb b mark (none 0 (omega arith))))
+up_to_place mark [] = refl
+up_to_place mark (b ∷ bs) = up_to_step b bs (up_to mark bs) (place mark bs) (b == mark) (up_to_place mark bs)
 
-pub behind_first : (mark : ℕ) (bs : List ℕ) (i : ℕ) → i < length bs → Unmarked mark bs i → get_or bs i 0 ≡ mark → drop (suc i) bs ≡ behind mark bs
+behind_step : (b : ℕ) (bs back : List ℕ) (n : ℕ) (t : Bool) → drop (n + 1) bs ≡ back → drop (cond (not t) (1 + n) 0 + 1) (b ∷ bs) ≡ cond t bs back
+behind_step b bs back n true is = refl
+behind_step b bs back n false is = let one : 1 + n + 1 ≡ suc (n + 1) = omega arith in ap (λ k. drop k (b ∷ bs)) one ∙ is
+
+behind_place : (mark : ℕ) (bs : List ℕ) → drop (place mark bs + 1) bs ≡ behind mark bs
 unfolding behind
-behind_first mark [] i h none is = absurd (omega arith)
-behind_first mark (b ∷ bs) zero h none is = sym (cond-true (eqb b mark) _ _ (eq-eqb b mark is))
-behind_first mark (b ∷ bs) (suc i) h none is =
-    behind_first mark bs i (omega arith) (λ k lt. none (suc k) (omega arith)) is
-    ∙ sym (cond-false (eqb b mark) _ _ (ne_eqb b mark (none 0 (omega arith))))
+behind_place mark [] = refl
+behind_place mark (b ∷ bs) = behind_step b bs (behind mark bs) (place mark bs) (b == mark) (behind_place mark bs)
 
-pub up_to_none : (mark : ℕ) (bs : List ℕ) → Unmarked mark bs (length bs) → bs ≡ up_to mark bs
-unfolding up_to
-up_to_none mark [] none = refl
-up_to_none mark (b ∷ bs) none =
-    ap (λ l. b ∷ l) (up_to_none mark bs (λ k lt. none (suc k) (omega arith)))
-    ∙ sym (cond-false (eqb b mark) _ _ (ne_eqb b mark (none 0 (omega arith))))
+-- where a mark stands at a place
+pub split_some : (mark at : ℕ) (bs : List ℕ) → Some at ≡ position (λ b. b == mark) bs → (take at bs ≡ up_to mark bs) × (drop (at + 1) bs ≡ behind mark bs)
+split_some mark at bs is =
+    ⊎_elim
+    (λ within.
+    let some : Some at ≡ Some (place mark bs) = is ∙ cond-true (ltb (place mark bs) (length bs)) _ _ (lt-ltb _ _ within) in
+    let same : at ≡ place mark bs = cc in
+    (ap (λ n. take n bs) same ∙ up_to_place mark bs, ap (λ n. drop (n + 1) bs) same ∙ behind_place mark bs))
+    (λ past.
+    let none : Some at ≡ None = is ∙ cond-false (ltb (place mark bs) (length bs)) _ _ (le-ltb _ _ past) in
+    let z : ◌≡◌ {A = ℕ} 0 1 = cc in absurd (omega arith))
+    (cases_lt (place mark bs) (length bs))
 
-pub behind_none : (mark : ℕ) (bs : List ℕ) → Unmarked mark bs (length bs) → [] ≡ behind mark bs
-unfolding behind
-behind_none mark [] none = refl
-behind_none mark (b ∷ bs) none =
-    behind_none mark bs (λ k lt. none (suc k) (omega arith))
-    ∙ sym (cond-false (eqb b mark) _ _ (ne_eqb b mark (none 0 (omega arith))))
+-- where no mark stands
+pub split_none : (mark : ℕ) (bs : List ℕ) → None ≡ position (λ b. b == mark) bs → (bs ≡ up_to mark bs) × ([] ≡ behind mark bs)
+split_none mark bs is =
+    ⊎_elim
+    (λ within.
+    let some : None ≡ Some (place mark bs) = is ∙ cond-true (ltb (place mark bs) (length bs)) _ _ (lt-ltb _ _ within) in
+    let z : ◌≡◌ {A = ℕ} 0 1 = cc in absurd (omega arith))
+    (λ past. (
+      sym (take_all (place mark bs) bs past) ∙ up_to_place mark bs,
+      sym (drop_all (place mark bs + 1) bs (omega (arith, past))) ∙ behind_place mark bs,
+    ))
+    (cases_lt (place mark bs) (length bs))

@@ -1,42 +1,47 @@
 // The forms of a line, and the numbers in it.
 ghost use Rattle.std.specs.Prelude.{◌≡◌};
-ghost use Rattle.texts.specs.Forms.{said, taken_apart, field_number};
+ghost use Rattle.std.specs.Option.{option_zip};
+ghost use Rattle.texts.specs.Splits.{up_to, behind};
+ghost use Rattle.texts.specs.Forms.{said, form, field_number};
 
 use crate::split::split;
 
-/// A line taken apart: what it begins with, and the two fields that follow, as they stand in the text.
+/// A line that was read: what it begins with, and the two numbers that follow.
 #[derive(Clone, Copy)]
-pub enum TextLine<'a> {
-    Size(&'a [u8], &'a [u8]),
-    Free(&'a [u8], &'a [u8]),
-    Off(&'a [u8], &'a [u8]),
+pub enum TextLine {
+    Size(u8, u8),
+    Free(u8, u8),
+    Off(u8, u8),
     Blank,
 }
 
-/// The line taken apart at its spaces, or none where it begins like no form.
-pub fn read(line: &[u8]) -> Option<TextLine<'_>>
-    ensures { said result ≡ taken_apart line.now }
+/// What a line says, or none where it has no form.
+pub fn read(line: &[u8]) -> Option<TextLine>
+    ensures { said result ≡ form line.now }
 {
-    match line {
-        [] => Some(TextLine::Blank),
-        [b's', b'i', b'z', b'e', b' ', rest @ ..] => {
-            let (members, slots) = split(rest, b' ');
-            Some(TextLine::Size(members, slots))
-        }
-        [b'f', b'r', b'e', b'e', b' ', rest @ ..] => {
-            let (member, slot) = split(rest, b' ');
-            Some(TextLine::Free(member, slot))
-        }
-        [b'o', b'f', b'f', b' ', rest @ ..] => {
-            let (member, slot) = split(rest, b' ');
-            Some(TextLine::Off(member, slot))
-        }
-        _ => None,
+    if line.is_empty() {
+        Some(TextLine::Blank)
+    } else if let Some(rest) = line.strip_prefix(b"size ") {
+        numbers(rest).map(|(members, slots)| TextLine::Size(members, slots))
+    } else if let Some(rest) = line.strip_prefix(b"free ") {
+        numbers(rest).map(|(member, slot)| TextLine::Free(member, slot))
+    } else if let Some(rest) = line.strip_prefix(b"off ") {
+        numbers(rest).map(|(member, slot)| TextLine::Off(member, slot))
+    } else {
+        None
     }
 }
 
-/// The number that a field writes: one digit, or two of which the first is not 0.
-pub fn number(field: &[u8]) -> Option<u8>
+// The two numbers that stand in `fields` with a space between them.
+fn numbers(fields: &[u8]) -> Option<(u8, u8)>
+    ensures { result ≡ option_zip (field_number (up_to 32 fields.now)) (field_number (behind 32 fields.now)) }
+{
+    let (first, second) = split(fields, b' ');
+    number(first).zip(number(second))
+}
+
+// The number that a field writes: one digit, or two of which the first is not 0.
+fn number(field: &[u8]) -> Option<u8>
     ensures { result ≡ field_number field.now }
 {
     match field {

@@ -22,6 +22,7 @@ impl Refusal for Cause {
 
     fn number(&self) -> u8 {
         match self {
+            // A number by hand: two other variants hold a refusal, and an enum with such variants is no number.
             Cause::Form => 5,
             Cause::Size(refusal) => refusal.number(),
             Cause::Roster(refusal) => refusal.number(),
@@ -29,6 +30,7 @@ impl Refusal for Cause {
     }
 }
 
+// Both conversions are written out: a derived one would not say in `from_gives` which cause a `?` answers with.
 impl From<SizeRefusal> for Cause {
     ghost from_gives = { λ refusal cause. cause ≡ Size refusal };
 

@@ -7,10 +7,8 @@ pub fn split(bytes: &[u8], mark: u8) -> (&[u8], &[u8])
     ensures front { result.0.now ≡ up_to mark bytes.now }
     ensures back { result.1.now ≡ behind mark bytes.now }
 {
-    for (i, byte) in bytes.iter().enumerate() {
-        if *byte == mark {
-            return (&bytes[0..i], &bytes[i + 1..]);
-        }
+    match bytes.iter().position(|&byte| byte == mark) {
+        Some(at) => (&bytes[..at], &bytes[at + 1..]),
+        None => (bytes, &[]),
     }
-    (bytes, &bytes[bytes.len()..])
 }

@@ -8,6 +8,7 @@ use ranking::crew_made::CrewMade;
 use ranking::seat_line::SeatLine;
 use tables::crew::Crew;
 
+// The plain orders are written out: what is compared with the kinds' own orders may share no code with them.
 /// A kind of line that can be drawn, with a plain order.
 pub trait Kind: Line {
     /// A line drawn at random.
@@ -34,11 +35,11 @@ impl Kind for MetresLine {
     }
 }
 
-// A crew of words up to 127.
-fn drawn_crew(generator: &mut Generator) -> Option<Crew> {
+// The line of a crew of words up to 127.
+fn drawn_line<L: CrewMade>(generator: &mut Generator) -> Option<L> {
     let members = u64::from(generator.below(127)).saturating_add(1);
     let slots = u64::from(generator.below(127)).saturating_add(1);
-    Crew::new(members, slots)
+    Crew::new(members, slots).map(|crew| L::of(&crew))
 }
 
 fn crew_goes_first(a: &Crew, b: &Crew) -> bool {
@@ -49,27 +50,19 @@ fn crew_goes_first(a: &Crew, b: &Crew) -> bool {
     }
 }
 
+// How many of its lowest eight numbers a word holds.
+fn counted(word: u64) -> u64 {
+    (0..8u32).fold(0, |count, i| count.wrapping_add((word >> i) & 1))
+}
+
 // The members times the slots of a drawn crew, each counted one by one.
-fn seats(crew: &Crew) -> u32 {
-    let mut members = 0u32;
-    let mut slots = 0u32;
-    for i in 0..8u32 {
-        if (crew.members() >> i) & 1 == 1 {
-            members = members.saturating_add(1);
-        }
-        if (crew.slots() >> i) & 1 == 1 {
-            slots = slots.saturating_add(1);
-        }
-    }
-    members.wrapping_mul(slots)
+fn seats(crew: &Crew) -> u64 {
+    counted(crew.members()).wrapping_mul(counted(crew.slots()))
 }
 
 impl Kind for CrewLine {
     fn drawn(generator: &mut Generator) -> Option<CrewLine> {
-        match drawn_crew(generator) {
-            Some(crew) => Some(CrewLine::of(&crew)),
-            None => None,
-        }
+        drawn_line(generator)
     }
 
     fn goes_first(&self, other: &CrewLine) -> bool {
@@ -79,10 +72,7 @@ impl Kind for CrewLine {
 
 impl Kind for SeatLine {
     fn drawn(generator: &mut Generator) -> Option<SeatLine> {
-        match drawn_crew(generator) {
-            Some(crew) => Some(SeatLine::of(&crew)),
-            None => None,
-        }
+        drawn_line(generator)
     }
 
     fn goes_first(&self, other: &SeatLine) -> bool {

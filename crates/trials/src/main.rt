@@ -1,10 +1,11 @@
-// Trial runs of the crates below, compared with plain models that share no code with them.
+// Trial runs of the crates below, compared with plain models that share no code with them but the types of sizes, steps and refusals.
 #![tactic(auto)]
 
 mod finder;
 mod five_tables;
 mod generator;
 mod kinds;
+mod mismatches;
 mod model;
 mod opening;
 mod places;

@@ -1,6 +1,10 @@
 // A plain model of a roster under layers: a truth value for each pair of the roster at the bottom, and a count of free places.
+use crate::plain::word_of;
 use std::alloc::{AllocError, Global};
+use tables::refusals::RosterRefusal;
+use tables::size::Size;
 
+// A member and a slot are two numbers here as in the calls that are compared.
 /// Which part of the roster at the bottom the topmost layer shows, and whether members and slots are exchanged there.
 #[derive(Clone, Copy)]
 pub struct View {
@@ -11,18 +15,53 @@ pub struct View {
     pub turned: bool,
 }
 
-/// The marks of the roster at the bottom, and how many more there can be.
+impl View {
+    /// All of a roster.
+    pub fn whole(size: Size) -> View {
+        View {
+            members: size.members(),
+            slots: size.slots(),
+            first_member: 0,
+            first_slot: 0,
+            turned: false,
+        }
+    }
+
+    // Where the pair stands among the marks of the roster at the bottom; refused for a number that the view does not show.
+    fn place(&self, member: u8, slot: u8) -> Result<usize, RosterRefusal> {
+        if member >= self.members {
+            return Err(RosterRefusal::NoMember);
+        }
+        if slot >= self.slots {
+            return Err(RosterRefusal::NoSlot);
+        }
+        let (i, j) = if self.turned {
+            (slot, member)
+        } else {
+            (member, slot)
+        };
+        let row = usize::from(self.first_member) + usize::from(i);
+        let column = usize::from(self.first_slot) + usize::from(j);
+        Ok(64 * row + column)
+    }
+}
+
+/// The marks of the roster at the bottom, how many more there can be, and the view of them.
 #[derive(Drop)]
 pub struct Model {
     marks: Vec<bool>,
     free: u16,
+    pub view: View,
 }
 
 impl Model {
-    /// A model with nothing marked.
-    pub fn new(heap: Global, free: u16) -> Result<Model, AllocError> {
-        let marks = vec![in heap; false; 4096]?;
-        Ok(Model { marks, free })
+    /// A model with nothing marked, seen whole.
+    pub fn new(heap: Global, size: Size, free: u16) -> Result<Model, AllocError> {
+        Ok(Model {
+            marks: vec![in heap; false; 4096]?,
+            free,
+            view: View::whole(size),
+        })
     }
 
     /// How many more pairs can be marked.
@@ -30,64 +69,44 @@ impl Model {
         self.free
     }
 
-    /// Whether a pair is marked, as the view numbers it.
-    pub fn is_marked(&self, view: &View, member: u8, slot: u8) -> bool {
-        if member >= view.members || slot >= view.slots {
-            return false;
-        }
-        self.marks
-            .get(place(view, member, slot))
-            .copied()
-            .unwrap_or(false)
-    }
-
-    /// Marks a pair: 0, or the number of the refusal.
-    pub fn mark(&mut self, view: &View, member: u8, slot: u8) -> u8 {
-        let refusal = bad_number(view, member, slot);
-        if refusal != 0 {
-            return refusal;
-        }
-        if self.is_marked(view, member, slot) {
-            return 0;
+    /// Marks a pair, as the view numbers it.
+    pub fn mark(&mut self, member: u8, slot: u8) -> Result<(), RosterRefusal> {
+        let place = self.view.place(member, slot)?;
+        if self.is_marked(member, slot) {
+            return Ok(());
         }
         if self.free == 0 {
-            return 7;
+            return Err(RosterRefusal::NoPlace);
         }
         self.free -= 1;
-        self.set(place(view, member, slot), true);
-        0
+        self.set(place, true);
+        Ok(())
     }
 
-    /// Clears a pair: 0, or the number of the refusal.
-    pub fn clear(&mut self, view: &View, member: u8, slot: u8) -> u8 {
-        let refusal = bad_number(view, member, slot);
-        if refusal == 0 && self.is_marked(view, member, slot) {
+    /// Clears a pair, as the view numbers it.
+    pub fn clear(&mut self, member: u8, slot: u8) -> Result<(), RosterRefusal> {
+        let place = self.view.place(member, slot)?;
+        if self.is_marked(member, slot) {
             self.free = self.free.wrapping_add(1);
-            self.set(place(view, member, slot), false);
+            self.set(place, false);
         }
-        refusal
+        Ok(())
     }
 
     /// The slots of a member, as a word.
-    pub fn slot_word(&self, view: &View, member: u8) -> u64 {
-        let mut word = 0;
-        for slot in 0..64u8 {
-            if self.is_marked(view, member, slot) {
-                word |= 1u64 << slot;
-            }
-        }
-        word
+    pub fn slot_word(&self, member: u8) -> u64 {
+        word_of(|slot| self.is_marked(member, slot))
     }
 
     /// The members of a slot, as a word.
-    pub fn member_word(&self, view: &View, slot: u8) -> u64 {
-        let mut word = 0;
-        for member in 0..64u8 {
-            if self.is_marked(view, member, slot) {
-                word |= 1u64 << member;
-            }
-        }
-        word
+    pub fn member_word(&self, slot: u8) -> u64 {
+        word_of(|member| self.is_marked(member, slot))
+    }
+
+    fn is_marked(&self, member: u8, slot: u8) -> bool {
+        self.view
+            .place(member, slot)
+            .is_ok_and(|place| self.marks.get(place).copied().unwrap_or(false))
     }
 
     fn set(&mut self, place: usize, told: bool) {
@@ -95,27 +114,4 @@ impl Model {
             *mark = told;
         }
     }
-}
-
-// The refusal of a number that the view does not show, or 0.
-fn bad_number(view: &View, member: u8, slot: u8) -> u8 {
-    if member >= view.members {
-        1
-    } else if slot >= view.slots {
-        2
-    } else {
-        0
-    }
-}
-
-// Where the pair stands among the marks of the roster at the bottom.
-fn place(view: &View, member: u8, slot: u8) -> usize {
-    let (i, j) = if view.turned {
-        (slot, member)
-    } else {
-        (member, slot)
-    };
-    let row = usize::from(view.first_member) + usize::from(i);
-    let column = usize::from(view.first_slot) + usize::from(j);
-    64 * row + column
 }

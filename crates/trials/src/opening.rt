@@ -6,9 +6,9 @@ use std::fmt;
 use tables::table::{Roster, Table};
 
 /// What a session gave.
-#[derive(Clone, Copy)]
+#[derive(Clone, Copy, Default)]
 pub struct Opened {
-    crews: u32,
+    crews: usize,
     first_members: u64,
     first_slots: u64,
 }
@@ -44,22 +44,13 @@ pub fn browse<T: Table + Drop>(table: T, limit: Limit) -> Opened {
 
 // Counts the crews ahead, at most a thousand.
 fn list<T: Table + Drop>(mut session: Listing<T>) -> Opened {
-    let mut opened = Opened {
-        crews: 0,
-        first_members: 0,
-        first_slots: 0,
-    };
-    for _ in 0..1000u32 {
-        match session.next() {
-            Some(crew) => {
-                if opened.crews == 0 {
-                    opened.first_members = crew.members();
-                    opened.first_slots = crew.slots();
-                }
-                opened.crews = opened.crews.wrapping_add(1);
-            }
-            None => break,
-        }
-    }
-    opened
+    let first = session.next();
+    let others = (0..999u32).map_while(|_| session.next()).count();
+    first
+        .map(|crew| Opened {
+            crews: others.saturating_add(1),
+            first_members: crew.members(),
+            first_slots: crew.slots(),
+        })
+        .unwrap_or_default()
 }

@@ -1,168 +1,164 @@
 // Boards against a plain list of lines: pseudo-random puts and takes of each kind, on boards of few and many places.
-ghost use Rattle.boards.specs.Lines.{in_use, Increasing};
+ghost use Rattle.std.specs.Prelude.{◌<◌, length, IfSome};
 
 use crate::generator::Generator;
 use crate::kinds::Kind;
+use crate::mismatches::Mismatches;
 use boards::board::Board;
 use boards::metres::MetresLine;
 use boards::refusals::PutRefusal;
 use ranking::crew_line::CrewLine;
 use ranking::seat_line::SeatLine;
 use std::alloc::{AllocError, Global};
+use std::fmt;
 
-// What was compared.
-#[derive(Clone, Copy)]
+// What was compared, under the names of this trial; no other trial counts the same.
+#[derive(Clone, Copy, Default)]
 struct Tally {
     calls: u32,
     full: u32,
     present: u32,
     absent: u32,
-    mismatches: u32,
+    mismatches: Mismatches,
 }
 
 impl Tally {
     fn expect(&mut self, fits: bool) {
         self.calls = self.calls.saturating_add(1);
-        if !fits {
-            self.mismatches = self.mismatches.saturating_add(1);
-        }
+        self.mismatches.expect(fits);
     }
 }
 
-// The lines that should be on the board, in no order, and how many it can hold.
+impl fmt::Display for Tally {
+    fn fmt<W: fmt::Write>(&self, f: &mut fmt::Formatter<W>) -> fmt::Result {
+        write!(
+            f,
+            "{} answers compared, refused with 11: {}, with 12: {}, with 13: {}, {}",
+            self.calls, self.full, self.present, self.absent, self.mismatches
+        )
+    }
+}
+
+// A board, and the lines that should be on it, in no order.
 #[derive(Drop)]
-struct Model<L> {
-    lines: Vec<L>,
+struct Trial<'a, L: Kind> {
+    board: Board<'a, L>,
     places: usize,
+    lines: Vec<L>,
+    tally: &'a mut Tally,
 }
 
-impl<L: Kind> Model<L> {
-    // How many lines come before `line`, and where it is itself.
-    fn standing(&self, line: &L) -> (usize, Option<usize>) {
-        let mut before = 0usize;
-        let mut itself = None;
-        for (k, other) in self.lines.iter().enumerate() {
-            if other.goes_first(line) {
-                before = before.saturating_add(1);
-            } else if !line.goes_first(other) {
-                itself = Some(k);
+impl<'a, L: Kind> Trial<'a, L> {
+    fn new(heap: Global, memory: &'a mut [L], tally: &'a mut Tally) -> Trial<'a, L> {
+        let places = memory.len().min(4096);
+        Trial {
+            board: Board::new(memory),
+            places,
+            lines: Vec::new(heap),
+            tally,
+        }
+    }
+
+    // How many lines should come before `line`.
+    fn before(&self, line: &L) -> usize {
+        self.lines
+            .iter()
+            .filter(|other| other.goes_first(line))
+            .count()
+    }
+
+    // Where `line` itself is among the lines that should be there.
+    fn itself(&self, line: &L) -> Option<usize>
+        ensures { IfSome result (λ k. k < length self.now.lines.items) }
+    {
+        self.lines
+            .iter()
+            .position(|other| !other.goes_first(line) && !line.goes_first(other))
+    }
+
+    fn put(&mut self, line: L) -> Result<(), AllocError> {
+        let itself = self.itself(&line);
+        let room = self.lines.len() < self.places;
+        match self.board.put(line) {
+            Ok(()) => {
+                self.tally.expect(itself.is_none() && room);
+                self.lines.push(line)?;
+            }
+            Err(PutRefusal::Present) => {
+                self.tally.present = self.tally.present.saturating_add(1);
+                self.tally.expect(itself.is_some());
+            }
+            Err(PutRefusal::Full) => {
+                self.tally.full = self.tally.full.saturating_add(1);
+                self.tally.expect(itself.is_none() && !room);
             }
         }
-        (before, itself)
+        Ok(())
     }
-}
 
-fn try_put<L: Kind>(
-    board: &mut Board<L>,
-    model: &mut Model<L>,
-    line: L,
-    tally: &mut Tally,
-) -> Result<(), AllocError>
-    requires { Increasing L.Line.order (in_use board.old.lines.now board.old.used) }
-    ensures { Increasing L.Line.order (in_use board.new.lines.now board.new.used) }
-{
-    let (_, itself) = model.standing(&line);
-    let room = model.lines.len() < model.places;
-    match board.put(line) {
-        Ok(()) => {
-            tally.expect(itself.is_none() && room);
-            model.lines.push(line)?;
-        }
-        Err(PutRefusal::Present) => {
-            tally.present = tally.present.saturating_add(1);
-            tally.expect(itself.is_some());
-        }
-        Err(PutRefusal::Full) => {
-            tally.full = tally.full.saturating_add(1);
-            tally.expect(itself.is_none() && !room);
-        }
-    }
-    Ok(())
-}
-
-fn try_take<L: Kind>(board: &mut Board<L>, model: &mut Model<L>, line: L, tally: &mut Tally)
-    requires { Increasing L.Line.order (in_use board.old.lines.now board.old.used) }
-    ensures { Increasing L.Line.order (in_use board.new.lines.now board.new.used) }
-{
-    let (_, itself) = model.standing(&line);
-    match board.take(&line) {
-        Ok(()) => {
-            tally.expect(itself.is_some());
+    fn take(&mut self, line: &L) {
+        let itself = self.itself(line);
+        if self.board.take(line).is_ok() {
+            self.tally.expect(itself.is_some());
             if let Some(k) = itself {
-                if k < model.lines.len() {
-                    let _ = model.lines.swap_remove(k);
-                }
+                let _ = self.lines.swap_remove(k);
             }
-        }
-        Err(_) => {
-            tally.absent = tally.absent.saturating_add(1);
-            tally.expect(itself.is_none());
-        }
-    }
-}
-
-// The place of `line`, and the line in that place.
-fn try_place<L: Kind>(board: &Board<L>, model: &Model<L>, line: &L, tally: &mut Tally)
-    requires { Increasing L.Line.order (in_use board.now.lines.now board.now.used) }
-{
-    let (before, itself) = model.standing(line);
-    match board.place(line) {
-        Some(place) => {
-            tally.expect(itself.is_some() && place == before.saturating_add(1));
-            match board.at(place) {
-                Some(other) => tally.expect(!other.goes_first(line) && !line.goes_first(&other)),
-                None => tally.expect(false),
-            }
-        }
-        None => tally.expect(itself.is_none()),
-    }
-    let past = model.lines.len().saturating_add(1);
-    tally.expect(board.at(0).is_none() && board.at(past).is_none());
-}
-
-// Puts and takes drawn lines on a new board over `memory`.
-fn play<L: Kind>(
-    heap: Global,
-    memory: &mut [L],
-    calls: u32,
-    generator: &mut Generator,
-    tally: &mut Tally,
-) -> Result<(), AllocError> {
-    let places = memory.len().min(4096);
-    let mut board = Board::new(memory);
-    let mut model = Model {
-        lines: Vec::new(heap),
-        places,
-    };
-    for _ in 0..calls {
-        let Some(line) = L::drawn(generator) else {
-            break;
-        };
-        if generator.below(8) == 0 {
-            try_take(&mut board, &mut model, line, tally);
         } else {
-            try_put(&mut board, &mut model, line, tally)?;
+            self.tally.absent = self.tally.absent.saturating_add(1);
+            self.tally.expect(itself.is_none());
         }
-        try_place(&board, &model, &line, tally);
     }
-    tally.expect(board.len() == model.lines.len() && board.capacity() == places);
-    Ok(())
+
+    // The place of `line`, and the line in that place.
+    fn place(&mut self, line: &L) {
+        let itself = self.itself(line);
+        match self.board.place(line) {
+            Some(place) => {
+                let before = self.before(line);
+                self.tally
+                    .expect(itself.is_some() && place == before.saturating_add(1));
+                let same = self.board.at(place).is_some_and(|other| !other.goes_first(line)
+                    && !line.goes_first(&other));
+                self.tally.expect(same);
+            }
+            None => self.tally.expect(itself.is_none()),
+        }
+        let past = self.lines.len().saturating_add(1);
+        self.tally.expect(self.board.at(0).is_none() && self.board.at(past).is_none());
+    }
+
+    // Puts and takes drawn lines.
+    fn play(&mut self, calls: u32, generator: &mut Generator) -> Result<(), AllocError> {
+        for _ in 0..calls {
+            let Some(line) = L::drawn(generator) else {
+                break;
+            };
+            if generator.below(8) == 0 {
+                self.take(&line);
+            } else {
+                self.put(line)?;
+            }
+            self.place(&line);
+        }
+        self.tally.expect(
+            self.board.len() == self.lines.len() && self.board.capacity() == self.places,
+        );
+        Ok(())
+    }
 }
 
-// A board over `length` lines of memory, all of them `filler` at first; what lies behind place 4,096 must stay so.
+// A board over `count` lines of memory, all of them `filler` at first; what lies behind place 4,096 must stay so.
 fn try_board<L: Kind>(
     heap: Global,
     filler: L,
-    length: usize,
+    count: usize,
     calls: u32,
     tally: &mut Tally,
 ) -> Result<(), AllocError> {
     let mut memory = Vec::new(heap);
-    for _ in 0..length {
-        memory.push(filler)?;
-    }
-    let mut generator = Generator::new(length as u64);
-    play(heap, memory.as_mut_slice(), calls, &mut generator, tally)?;
+    memory.resize(count, filler)?;
+    let mut generator = Generator::new(count as u64);
+    Trial::new(heap, memory.as_mut_slice(), tally).play(calls, &mut generator)?;
     for other in memory.iter().skip(4096) {
         tally.expect(!other.goes_first(&filler) && !filler.goes_first(other));
     }
@@ -171,22 +167,15 @@ fn try_board<L: Kind>(
 
 // Boards of no place, one, seven and 4,096, and memory of 5,000 lines.
 fn try_kind<L: Kind>(heap: Global, filler: L, tally: &mut Tally) -> Result<(), AllocError> {
-    try_board(heap, filler, 0, 100, tally)?;
-    try_board(heap, filler, 1, 300, tally)?;
-    try_board(heap, filler, 7, 1000, tally)?;
-    try_board(heap, filler, 4096, 6000, tally)?;
-    try_board(heap, filler, 5000, 6000, tally)
+    for (count, calls) in [(0, 100), (1, 300), (7, 1000), (4096, 6000), (5000, 6000)] {
+        try_board(heap, filler, count, calls, tally)?;
+    }
+    Ok(())
 }
 
 /// Tries each kind of line and prints what was compared.
 pub fn run(rt: &HostRuntime) -> anyhow::Result<()> {
-    let mut tally = Tally {
-        calls: 0,
-        full: 0,
-        present: 0,
-        absent: 0,
-        mismatches: 0,
-    };
+    let mut tally = Tally::default();
     let mut generator = Generator::new(7);
     try_kind(
         rt.alloc(),
@@ -196,23 +185,12 @@ pub fn run(rt: &HostRuntime) -> anyhow::Result<()> {
         },
         &mut tally,
     )?;
-    let crew: Option<CrewLine> = <CrewLine as Kind>::drawn(&mut generator);
-    if let Some(line) = crew {
+    if let Some(line) = CrewLine::drawn(&mut generator) {
         try_kind(rt.alloc(), line, &mut tally)?;
     }
-    let seat: Option<SeatLine> = <SeatLine as Kind>::drawn(&mut generator);
-    if let Some(line) = seat {
+    if let Some(line) = SeatLine::drawn(&mut generator) {
         try_kind(rt.alloc(), line, &mut tally)?;
     }
-    let Tally {
-        calls,
-        full,
-        present,
-        absent,
-        mismatches,
-    } = tally;
-    println!(rt;
-        "boards: {calls} answers compared, refused with 11: {full}, with 12: {present}, with 13: {absent}, mismatches: {mismatches}"
-    )?;
+    println!(rt; "boards: {tally}")?;
     Ok(())
 }

@@ -1,107 +1,97 @@
 // The walk against a plain test of every set of members: on small random tables, from the start and from arbitrary words.
 use crate::generator::Generator;
-use crate::plain::{Plain, comes_before, marked, small_size};
+use crate::mismatches::Mismatches;
+use crate::plain::{Marked, comes_before, small_size};
+use anyhow::anyhow;
 use finders::limit::Limit;
-use rosters::bit_roster::BitRoster;
-use sessions::listing::Listing;
 use sessions::tour::list_into;
-use std::io;
+use std::fmt;
 use tables::table::Table;
 
-// What was compared.
-#[derive(Clone, Copy)]
+// What was compared, under the names of this trial; no other trial counts the same.
+#[derive(Clone, Copy, Default)]
 struct Tally {
     tables: u32,
     walks: u32,
     crews: u32,
-    mismatches: u32,
+    mismatches: Mismatches,
 }
 
-// Walks from `word` to the end and compares each crew, their order and their number.
-fn compare(session: &mut Listing<BitRoster>, plain: &Plain, word: u64, tally: &mut Tally) {
-    session.seek(word);
-    let mut given = 0u32;
-    let mut last = word;
-    for _ in 0..200u32 {
-        let Some(crew) = session.next() else {
-            break;
-        };
-        let repeated = given > 0 && !comes_before(last, crew.members());
-        if !plain.is_crew(crew.members(), crew.slots())
-            || comes_before(crew.members(), word)
-            || repeated
-        {
-            tally.mismatches = tally.mismatches.saturating_add(1);
-        }
-        last = crew.members();
-        given = given.saturating_add(1);
+impl fmt::Display for Tally {
+    fn fmt<W: fmt::Write>(&self, f: &mut fmt::Formatter<W>) -> fmt::Result {
+        write!(
+            f,
+            "{} tables, {} walks, {} crews compared, {}",
+            self.tables, self.walks, self.crews, self.mismatches
+        )
     }
-    if given != plain.crews_from(word) {
-        tally.mismatches = tally.mismatches.saturating_add(1);
-    }
-    tally.crews = tally.crews.saturating_add(given);
-    tally.walks = tally.walks.saturating_add(1);
 }
 
-// The whole list at once: as many crews as the plain test counts, each as `next` gives it, and then none.
-fn compare_list(session: &mut Listing<BitRoster>, plain: &Plain, tally: &mut Tally) {
-    let mut places = [None; 130];
-    list_into(session, &mut places);
-    session.rewind();
-    let mut given = 0u32;
-    for place in places.iter() {
-        if *place != session.next() {
-            tally.mismatches = tally.mismatches.saturating_add(1);
-        }
-        if place.is_some() {
+impl Tally {
+    // Walks from `word` to the end and compares each crew, their order and their number.
+    fn try_walk(&mut self, both: &mut Marked, word: u64) {
+        both.listing.seek(word);
+        // The crews given are counted in the loop: the count is needed behind it, and each crew is compared with the one before.
+        let mut given = 0u32;
+        let mut last = None;
+        for _ in 0..200u32 {
+            let Some(crew) = both.listing.next() else {
+                break;
+            };
+            let repeated = last.is_some_and(|last| !comes_before(last, crew.members()));
+            self.mismatches.expect(
+                both.plain.is_crew(crew.members(), crew.slots())
+                    && !comes_before(crew.members(), word)
+                    && !repeated,
+            );
+            last = Some(crew.members());
             given = given.saturating_add(1);
         }
+        self.mismatches
+            .expect(given as usize == both.plain.crews_from(word));
+        self.crews = self.crews.saturating_add(given);
+        self.walks = self.walks.saturating_add(1);
     }
-    if given != plain.crews_from(u64::MAX) {
-        tally.mismatches = tally.mismatches.saturating_add(1);
-    }
-    tally.walks = tally.walks.saturating_add(1);
-}
 
-// One table, walked from its start, from the word 0 and from arbitrary words.
-fn try_table(limit: Limit, generator: &mut Generator, tally: &mut Tally) {
-    let Some(size) = small_size(generator) else {
-        return;
-    };
-    let (session, plain) = marked(size, generator);
-    let mut listing = session.close(limit);
-    compare_list(&mut listing, &plain, tally);
-    compare(&mut listing, &plain, u64::MAX, tally);
-    compare(&mut listing, &plain, 0, tally);
-    for _ in 0..24u32 {
-        let word = generator.word();
-        compare(&mut listing, &plain, word >> 57, tally);
-        compare(&mut listing, &plain, word, tally);
+    // The whole list at once: as many crews as the plain test counts, each as `next` gives it, and then none.
+    fn try_list(&mut self, both: &mut Marked) {
+        // The places that `list_into` writes are its caller's; 130 are more than the crews of any such table.
+        let mut places = [None; 130];
+        list_into(&mut both.listing, &mut places);
+        both.listing.rewind();
+        for place in places.iter() {
+            self.mismatches.expect(*place == both.listing.next());
+        }
+        self.mismatches.expect(places.iter().flatten().count() == both.plain.crews_from(u64::MAX));
+        self.walks = self.walks.saturating_add(1);
     }
-    tally.tables = tally.tables.saturating_add(1);
+
+    // One table, walked from its start, from the word 0 and from arbitrary words.
+    fn try_table(&mut self, limit: Limit, generator: &mut Generator) {
+        let Some(size) = small_size(generator) else {
+            return;
+        };
+        let mut both = Marked::drawn(size, limit, generator);
+        self.try_list(&mut both);
+        self.try_walk(&mut both, u64::MAX);
+        self.try_walk(&mut both, 0);
+        for _ in 0..24u32 {
+            let word = generator.word();
+            self.try_walk(&mut both, word >> 57);
+            self.try_walk(&mut both, word);
+        }
+        self.tables = self.tables.saturating_add(1);
+    }
 }
 
 /// Tries many tables and prints what was compared.
-pub fn run(rt: &HostRuntime) -> io::Result<()> {
-    let mut tally = Tally {
-        tables: 0,
-        walks: 0,
-        crews: 0,
-        mismatches: 0,
-    };
+pub fn run(rt: &HostRuntime) -> anyhow::Result<()> {
+    let mut tally = Tally::default();
     let mut generator = Generator::new(2026);
-    if let Ok(limit) = Limit::new(0) {
-        for _ in 0..400u32 {
-            try_table(limit, &mut generator, &mut tally);
-        }
+    let limit = Limit::try_from(0).map_err(|_| anyhow!("the limit is refused"))?;
+    for _ in 0..400u32 {
+        tally.try_table(limit, &mut generator);
     }
-    let Tally {
-        tables,
-        walks,
-        crews,
-        mismatches,
-    } = tally;
-    println!(rt;
-        "walk: {tables} tables, {walks} walks, {crews} crews compared, mismatches: {mismatches}"
-    )
+    println!(rt; "walk: {tally}")?;
+    Ok(())
 }

@@ -1,5 +1,5 @@
 -- A grid and its window: the words of the window, and what mark and clear do seen through it. Assumes nothing.
-use Rattle.std.proofs.Common.{◌≡◌, ℕ, ◌+◌, ◌-◌, ◌/◌, ◌%◌, ◌^◌, ◌<◌, ◌≤◌, min, Bool, true, false, cond, ◌&&◌, eqb, ltb, is_ok, sym, refl, ap, ◌∙◌, ap₂, lt_of_le_of_lt, div-le_self, arith, shr-shr}
+use Rattle.std.proofs.Common.{◌≡◌, ℕ, ◌+◌, ◌-◌, ◌/◌, ◌%◌, ◌^◌, ◌<◌, ◌≤◌, min, Bool, true, false, cond, ◌&&◌, eqb, ltb, is_ok, Ok, sym, refl, ap, ◌∙◌, ap₂, subst, lt_of_le_of_lt, div-le_self, arith, shr-shr}
 use mathlib.Core.Path.{fun_ext}
 use lib.Bits.{bit_and}
 use Rattle.std.proofs.lemmas.Bool.{lt-ltb, le-ltb, and_parts, ltb-true}
@@ -8,9 +8,10 @@ use Rattle.words.specs.Bits.{bit, gather}
 use Rattle.words.proofs.Bits.{bit-and, gathered, all_below}
 use Rattle.words.proofs.Listed.{bit_ones, and_below}
 use Rattle.tables.specs.Grid.{Grid, Proper, slot_word, member_word}
-use Rattle.tables.specs.Sheet.{Sheet, sheet, with_pair, marking, after_mark, clearing, after_clear}
+use Rattle.tables.specs.Sheet.{Sheet, sheet, with_pair, placing, marking, after_mark, clearing, after_clear}
 use Rattle.views.specs.Window.{window_start, window_width, windowed}
 use Rattle.tables.proofs.Closure.{slot_word_holds}
+use Rattle.tables.proofs.Placing.{placed}
 use Rattle.words.proofs.Gathering.{and_swap, gathers_nothing}
 
 bit_shifted : (w s j : ℕ) → bit (w / 2 ^ s) j ≡ bit w (s + j)
@@ -101,21 +102,30 @@ module _ (g : Grid) (proper : Proper g) (a w s k : ℕ) (starts : s ≡ window_s
   pub window_no_slot : (j : ℕ) → k ≤ j → 0 ≡ member_word (windowed a w g) j
   window_no_slot j h = shown_no_slot g proper s k within j h ∙ ap (λ h. member_word h j) as_windowed
 
-  module _ (free i j : ℕ) (hi : i < g.members) (hj : j < k) where
-    pub window_marking : marking (sheet g free) i (s + j) ≡ marking (sheet (windowed a w g) free) i j
-    window_marking = marking_shown g proper s k within free i j hi hj ∙ ap (λ h. marking (sheet h free) i j) as_windowed
+-- mark and clear of a place that the window has, over a roster that means t
+module _ (t : Sheet) (g : Grid) (same : t.grid ≡ g) (proper : Proper g) (a w s i j : ℕ) (starts : s ≡ window_start g.slots a) (has : placing (windowed a w g) i j ≡ Ok tt) where
+  below : Proper t.grid
+  below = subst Proper (sym same) proper
 
-    pub window_clearing : clearing (sheet g free) i (s + j) ≡ clearing (sheet (windowed a w g) free) i j
-    window_clearing = clearing_shown g proper s k within free i j hi hj ∙ ap (λ h. clearing (sheet h free) i j) as_windowed
+  starts_below : s ≡ window_start t.grid.slots a
+  starts_below = starts ∙ ap (λ h. window_start h.slots a) (sym same)
 
-    pub window_after_mark : (t : Sheet) → t ≡ after_mark (sheet g free) i (s + j) → seen a w t ≡ after_mark (sheet (windowed a w g) free) i j
-    window_after_mark t e =
-        ap (seen a w) e ∙ seen_is_shown a w (is_ok (marking (sheet g free) i (s + j))) _ (sheet g free) refl
-        ∙ sym (ap₂ (λ s' k'. shown_sheet s' k' (after_mark (sheet g free) i (s + j))) starts wide)
-        ∙ after_mark_shown g proper s k within free i j hi hj ∙ ap (λ h. after_mark (sheet h free) i j) as_windowed
+  inside : (i < t.grid.members) × (j < window_width t.grid.slots a w)
+  inside = subst (λ h. (i < h.members) × (j < window_width h.slots a w)) (sym same) (placed (windowed a w g) i j has)
 
-    pub window_after_clear : (t : Sheet) → t ≡ after_clear (sheet g free) i (s + j) → seen a w t ≡ after_clear (sheet (windowed a w g) free) i j
-    window_after_clear t e =
-        ap (seen a w) e ∙ seen_is_shown a w (is_ok (clearing (sheet g free) i (s + j))) _ (sheet g free) refl
-        ∙ sym (ap₂ (λ s' k'. shown_sheet s' k' (after_clear (sheet g free) i (s + j))) starts wide)
-        ∙ after_clear_shown g proper s k within free i j hi hj ∙ ap (λ h. after_clear (sheet h free) i j) as_windowed
+  abbrev k : ℕ
+  k = window_width t.grid.slots a w
+
+  pub window_after_mark : (u : Sheet) → u ≡ after_mark t i (s + j) → seen a w u ≡ after_mark (seen a w t) i j
+  window_after_mark u e =
+      ap (seen a w) e ∙ seen_is_shown a w (is_ok (marking t i (s + j))) _ t refl
+      ∙ ap (λ s'. shown_sheet s' k (after_mark t i (s + j))) (sym starts_below)
+      ∙ after_mark_shown t.grid below s k (within t.grid below a w s k starts_below refl) t.free i j inside.0 inside.1
+      ∙ ap (λ s'. after_mark (sheet (shown s' k t.grid) t.free) i j) starts_below
+
+  pub window_after_clear : (u : Sheet) → u ≡ after_clear t i (s + j) → seen a w u ≡ after_clear (seen a w t) i j
+  window_after_clear u e =
+      ap (seen a w) e ∙ seen_is_shown a w (is_ok (clearing t i (s + j))) _ t refl
+      ∙ ap (λ s'. shown_sheet s' k (after_clear t i (s + j))) (sym starts_below)
+      ∙ after_clear_shown t.grid below s k (within t.grid below a w s k starts_below refl) t.free i j inside.0 inside.1
+      ∙ ap (λ s'. after_clear (sheet (shown s' k t.grid) t.free) i j) starts_below

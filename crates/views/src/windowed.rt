@@ -1,7 +1,8 @@
 // A table of which some slots that follow one another are shown, numbered from 0.
 ghost use Rattle.std.specs.Prelude.{◌≡◌};
+ghost use Rattle.tables.specs.Sheet.{sheet};
 ghost use Rattle.views.specs.Window.{windowed, window_start, window_width};
-ghost use Rattle.std.proofs.Common.{rules};
+ghost use Rattle.std.proofs.Common.{ap, rules};
 
 use tables::refusals::RosterRefusal;
 use tables::table::{Roster, Table};
@@ -80,31 +81,24 @@ impl<T: Table> Table for Windowed<T> {
     }
 }
 
+// Mark and clear hand on two calls of other names; one text for both would take the call as a closure and be no plainer.
 impl<R: Roster> Roster for Windowed<R> {
-    ghost free = { λ r. R.Roster.free r.table };
+    ghost sheet = { λ r. sheet (windowed r.from r.count (R.Roster.sheet r.table).grid) (R.Roster.sheet r.table).free };
+
+    ghost on_grid = { λ r. ap (windowed r.from r.count) (R.Roster.on_grid r.table) };
 
     fn free_places(&self) -> u16 {
         self.table.free_places()
     }
 
     fn mark(&mut self, member: u8, slot: u8) -> Result<(), RosterRefusal> {
-        if member >= self.table.members() {
-            return Err(RosterRefusal::NoMember);
-        }
-        if slot >= self.width() {
-            return Err(RosterRefusal::NoSlot);
-        }
+        self.check_place(member, slot)?;
         let below = self.start() + slot;
         self.table.mark(member, below)
     }
 
     fn clear(&mut self, member: u8, slot: u8) -> Result<(), RosterRefusal> {
-        if member >= self.table.members() {
-            return Err(RosterRefusal::NoMember);
-        }
-        if slot >= self.width() {
-            return Err(RosterRefusal::NoSlot);
-        }
+        self.check_place(member, slot)?;
         let below = self.start() + slot;
         self.table.clear(member, below)
     }

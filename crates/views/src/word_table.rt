@@ -42,11 +42,10 @@ impl Table for WordTable<'_> {
         if member >= self.size.members() {
             return 0;
         }
-        let i = member as usize;
-        if i >= self.words.len() {
-            return 0;
+        match self.words.get(member as usize) {
+            Some(word) => word & below(self.size.slots()),
+            None => 0,
         }
-        self.words[i] & below(self.size.slots())
     }
 
     fn member_word(&self, slot: u8) -> u64 {

@@ -1,3 +1,4 @@
+pub mod Ranges
 pub mod Reading
 pub mod Snapshots
 pub mod Walking

@@ -8,13 +8,13 @@ use Rattle.walks.specs.declared.rows.Rows.{Rows}
 
 pub rows_proper : (r : Rows) → Proper (rows_grid r)
 rows_proper r = record {
-  some_member = r.some_member;
-  members_fit = r.members_fit;
-  some_slot = r.some_slot;
-  slots_fit = r.slots_fit;
+  some_member = r.size.some_member;
+  members_fit = r.size.members_fit;
+  some_slot = r.size.some_slot;
+  slots_fit = r.size.slots_fit;
   inside = r.inside;
 }
 
 pub rows_word : (r : Rows) (k : ℕ) → get_or r.words k 0 < 2 ^ 64 → get_or r.words k 0 ≡ slot_word (rows_grid r) k
 unfolding slot_word
-rows_word r k fits = gathered (get_or r.words k 0) r.slots (held r.words k) r.slots_fit fits (λ j. refl) (λ j h. (r.inside k j h).1)
+rows_word r k fits = gathered (get_or r.words k 0) r.size.slots (held r.words k) r.size.slots_fit fits (λ j. refl) (λ j h. (r.inside k j h).1)

@@ -1,5 +1,5 @@
 // The walk: a position among the words, and the crews that lie ahead of it.
-ghost use Rattle.std.specs.Prelude.{◌≡◌, ◌-◌, ◌^◌};
+ghost use Rattle.std.specs.Prelude.{◌≡◌, ℕ, ◌-◌, ◌^◌};
 ghost use Rattle.std.specs.Option.{option_map};
 ghost use Rattle.tables.specs.Crews.{ahead};
 ghost use Rattle.tables.specs.Firsts.{first, rest};
@@ -7,6 +7,7 @@ ghost use Rattle.tables.specs.Sides.{sides};
 ghost use Rattle.walks.specs.Walks.{past};
 
 use crate::rows::Rows;
+use std::marker::Model;
 use tables::crew::Crew;
 use tables::table::Table;
 use words::order::successor;
@@ -17,34 +18,37 @@ pub struct Walk {
     position: u64,
 }
 
+impl Model for Walk {
+    ghost Value = { ℕ };
+
+    ghost view = { λ w. w.position };
+
+    ghost inverse = { λ n. record { position = n } };
+}
+
 impl Walk {
     /// The walk at its start, with every crew ahead.
     pub fn start() -> Walk
-        ensures { result.position ≡ 2 ^ 64 - 1 }
+        ensures { result ≡ 2 ^ 64 - 1 }
     {
         Walk { position: u64::MAX }
     }
 
     /// Goes to the first crew whose member word is not before `word`.
     pub fn seek(&mut self, word: u64)
-        ensures { self.new.position ≡ word }
+        ensures { self.new ≡ word }
     {
         self.position = word;
     }
 
     /// The first crew of `table` ahead, moving just past it, or none.
     pub fn next<T: Table>(&mut self, table: &T) -> Option<Crew>
-        ensures answer { option_map sides result ≡ first (ahead (T.Table.grid table.now) self.old.position) }
-        ensures ahead { ahead (T.Table.grid table.now) self.new.position ≡ rest (ahead (T.Table.grid table.now) self.old.position) }
-        ensures moved { self.new.position ≡ past result self.old.position }
+        ensures answer { option_map sides result ≡ first (ahead (T.Table.grid table.now) self.old) }
+        ensures ahead { ahead (T.Table.grid table.now) self.new ≡ rest (ahead (T.Table.grid table.now) self.old) }
+        ensures moved { self.new ≡ past result self.old }
     {
-        let rows = Rows::read(table);
-        match rows.first_from(self.position) {
-            Some(crew) => {
-                self.position = successor(crew.members());
-                Some(crew)
-            }
-            None => None,
-        }
+        let crew = Rows::read(table).first_from(self.position)?;
+        self.position = successor(crew.members());
+        Some(crew)
     }
 }

@@ -1,4 +1,5 @@
 pub mod Bits
 pub mod Gathering
 pub mod Listed
+pub mod Ranges
 pub mod WordOrder

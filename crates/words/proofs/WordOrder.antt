@@ -4,7 +4,7 @@ use lib.Pow.{ones_lt, high_ones}
 use lib.Dec.{leb-suc-suc}
 use lib.Bits.{bit_or, bit_xor, xor_mod, xor_shr, or_shifted, or_shifted_r}
 use lib.Count.{count_trailing_zeros, under, count_leading_zeros, leading_top}
-use Rattle.std.specs.Ordering.{ordering_reverse}
+use Rattle.std.specs.Ordering.{is_lt, ordering_reverse}
 use Rattle.std.proofs.lemmas.Nat.{one_shl}
 use Rattle.std.proofs.lemmas.Bool.{cases_lt, lt-ltb, ne_eqb, cond-false}
 use Rattle.std.proofs.lemmas.Bool.Decides.{nat_tests, same_from_decides}
@@ -351,9 +351,9 @@ pub word_order_less : (a b : ℕ) → word_order a b ≡ Less → before a b ≡
 unfolding word_order
 word_order_less a b h = grind arith
 
-pub word_order_not_less : (a b : ℕ) → (word_order a b ≡ Less → ⊥) → before a b ≡ false
+pub word_order_is_lt : (a b : ℕ) → is_lt (word_order a b) ≡ before a b
 unfolding word_order
-word_order_not_less a b h = grind arith
+word_order_is_lt a b = grind arith
 
 -- ---- the order of words as an answer
 

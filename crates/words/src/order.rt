@@ -5,6 +5,7 @@ ghost use Rattle.words.specs.Order.{before, word_order, next_word, OrderLaws};
 use crate::sets::holds;
 use std::cmp::Ordering;
 
+// A word is a `u64` in every call, and that type has an order of its own, so this one is no `Ord`.
 /// How `a` stands to `b` in the order of words: `Less` says that `a` comes before `b`.
 pub fn compare(a: u64, b: u64) -> Ordering
     ensures order { result ≡ word_order a b }
@@ -24,10 +25,7 @@ pub fn compare(a: u64, b: u64) -> Ordering
 pub fn is_before(a: u64, b: u64) -> bool
     ensures { result ≡ before a b }
 {
-    match compare(a, b) {
-        Ordering::Less => true,
-        _ => false,
-    }
+    compare(a, b).is_lt()
 }
 
 /// The word next after `word` in the order of words. The word 0 is the last of all: it gives 0.

@@ -51,6 +51,7 @@ impl Finder {
         self.found.get(k)
     }
 
+    // A member and a slot are two numbers, as in every call of the console.
     /// The first found crew that has the member and the slot, or none.
     pub fn covering(&self, member: u8, slot: u8) -> Option<Crew>
         ensures { option_map sides result ≡ covering member slot (finding self.now).found }

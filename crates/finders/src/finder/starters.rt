@@ -8,13 +8,9 @@ use tables::table::Table;
 pub fn count_starters<T: Table>(table: &T) -> u8
     ensures { result ≡ starters (T.Table.grid table.now) }
 {
-    let mut count = 0;
-    for j in 0..table.slots() {
-        if is_starter(table, j) {
-            count += 1;
-        }
-    }
-    count
+    (0..table.slots())
+        .filter(|&slot| is_starter(table, slot))
+        .count() as u8
 }
 
 // Whether `slot` has members and is the first slot with just these.
@@ -22,13 +18,5 @@ fn is_starter<T: Table>(table: &T, slot: u8) -> bool
     ensures { result ≡ starts (T.Table.grid table.now) slot }
 {
     let word = table.member_word(slot);
-    if word == 0 {
-        return false;
-    }
-    for k in 0..slot {
-        if table.member_word(k) == word {
-            return false;
-        }
-    }
-    true
+    word != 0 && (0..slot).all(|earlier| table.member_word(earlier) != word)
 }

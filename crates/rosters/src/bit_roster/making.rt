@@ -1,6 +1,6 @@
 // A bit roster starts with nothing marked.
 ghost use Rattle.std.specs.Prelude.{◌≡◌, ◌*◌};
-ghost use Rattle.rosters.specs.Rosters.{bit_grid};
+ghost use Rattle.rosters.specs.Rosters.{bit_sheet};
 ghost use Rattle.tables.specs.Sheet.{sheet, unmarked};
 
 use super::BitRoster;
@@ -9,7 +9,7 @@ use tables::size::Size;
 impl BitRoster {
     /// A roster of that size with no pair marked and a free place for each.
     pub fn new(size: Size) -> BitRoster
-        ensures { sheet (bit_grid result) result.free ≡ sheet (unmarked size.members size.slots) (size.members * size.slots) }
+        ensures { bit_sheet result ≡ sheet (unmarked size.members size.slots) (size.members * size.slots) }
     {
         let rows = [0; 64];
         let columns = [0; 64];

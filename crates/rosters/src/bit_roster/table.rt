@@ -19,18 +19,10 @@ impl Table for BitRoster {
     }
 
     fn slot_word(&self, member: u8) -> u64 {
-        if member < 64 {
-            self.rows[member as usize]
-        } else {
-            0
-        }
+        self.rows.get(member as usize).copied().unwrap_or(0)
     }
 
     fn member_word(&self, slot: u8) -> u64 {
-        if slot < 64 {
-            self.columns[slot as usize]
-        } else {
-            0
-        }
+        self.columns.get(slot as usize).copied().unwrap_or(0)
     }
 }

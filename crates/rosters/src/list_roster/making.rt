@@ -1,6 +1,6 @@
 // A list roster starts with nothing marked and all its places free.
 ghost use Rattle.std.specs.Prelude.{◌≡◌, min};
-ghost use Rattle.rosters.specs.Rosters.{list_grid};
+ghost use Rattle.rosters.specs.Rosters.{list_sheet};
 ghost use Rattle.tables.specs.Sheet.{sheet, unmarked};
 
 use super::ListRoster;
@@ -10,7 +10,7 @@ use tables::size::Size;
 impl ListRoster {
     /// A roster of that size with no pair marked and `places` free places, or 256 where `places` is above that.
     pub fn new(size: Size, places: u16) -> ListRoster
-        ensures { sheet (list_grid result) result.free ≡ sheet (unmarked size.members size.slots) (min places 256) }
+        ensures { list_sheet result ≡ sheet (unmarked size.members size.slots) (min places 256) }
     {
         let codes = Codes::new();
         let free = places.min(256);

@@ -1,15 +1,16 @@
 // The list roster as a roster: a newly marked pair takes a place for its code, and a cleared one leaves it.
 ghost use Rattle.std.specs.Prelude.{◌≡◌, false, is_ok};
 ghost use Rattle.rosters.specs.Coded.{pair_code};
-ghost use Rattle.rosters.specs.Rosters.{list_grid};
-ghost use Rattle.tables.specs.Sheet.{sheet, marking, after_mark, clearing, after_clear};
+ghost use Rattle.rosters.specs.Rosters.{list_sheet};
+ghost use Rattle.tables.specs.Sheet.{marking, after_mark, clearing, after_clear};
+ghost use Rattle.std.proofs.Common.{refl};
 
 use super::ListRoster;
 use super::sorted::{first_place, put_in, take_out};
 use tables::refusals::RosterRefusal;
 use tables::table::{Roster, Table};
 
-// The code of a pair.
+// The code of a pair, which is two numbers as in every call of the console.
 fn pair_code(member: u8, slot: u8) -> u16
     ensures { result ≡ pair_code member slot }
 {
@@ -17,23 +18,20 @@ fn pair_code(member: u8, slot: u8) -> u16
 }
 
 impl Roster for ListRoster {
-    ghost free = { λ r. r.free };
+    ghost sheet = { list_sheet };
+
+    ghost on_grid = { λ _. refl };
 
     fn free_places(&self) -> u16 {
         self.free
     }
 
     fn mark(&mut self, member: u8, slot: u8) -> Result<(), RosterRefusal>
-        ensures answer { result ≡ marking (sheet (list_grid self.old) self.old.free) member slot }
-        ensures after { sheet (list_grid self.new) self.new.free ≡ after_mark (sheet (list_grid self.old) self.old.free) member slot }
+        ensures answer { result ≡ marking (list_sheet self.old) member slot }
+        ensures after { list_sheet self.new ≡ after_mark (list_sheet self.old) member slot }
         ensures kept { is_ok result ≡ false → self.new ≡ self.old }
     {
-        if member >= self.size.members() {
-            return Err(RosterRefusal::NoMember);
-        }
-        if slot >= self.size.slots() {
-            return Err(RosterRefusal::NoSlot);
-        }
+        self.check_place(member, slot)?;
         let code = pair_code(member, slot);
         let used = self.used as usize;
         let at = first_place(&self.codes.places, used, code);
@@ -50,16 +48,11 @@ impl Roster for ListRoster {
     }
 
     fn clear(&mut self, member: u8, slot: u8) -> Result<(), RosterRefusal>
-        ensures answer { result ≡ clearing (sheet (list_grid self.old) self.old.free) member slot }
-        ensures after { sheet (list_grid self.new) self.new.free ≡ after_clear (sheet (list_grid self.old) self.old.free) member slot }
+        ensures answer { result ≡ clearing (list_sheet self.old) member slot }
+        ensures after { list_sheet self.new ≡ after_clear (list_sheet self.old) member slot }
         ensures kept { is_ok result ≡ false → self.new ≡ self.old }
     {
-        if member >= self.size.members() {
-            return Err(RosterRefusal::NoMember);
-        }
-        if slot >= self.size.slots() {
-            return Err(RosterRefusal::NoSlot);
-        }
+        self.check_place(member, slot)?;
         let code = pair_code(member, slot);
         let used = self.used as usize;
         let at = first_place(&self.codes.places, used, code);

@@ -2,6 +2,7 @@
 ghost use Rattle.std.specs.Prelude.{◌≡◌, ℕ, ◌<◌, ◌≤◌, length, replicate, slice_index};
 ghost use Rattle.rosters.specs.Coded.{FirstPlace, put_in, take_out};
 
+// An array of a fixed size with the number of those in use beside it in the roster: no heap is used, and the unused places are part of what is promised.
 /// The places for codes, those in use first. One more than can be used, so that an unused one always comes last.
 #[derive(Drop)]
 pub struct Codes {
@@ -19,17 +20,16 @@ impl Codes {
     }
 }
 
+// The places come whole and with the number of those in use, here and below: the place that is found may be the unused one behind these, and a code that is put in or taken out moves it.
 /// The first of the `used` places that holds `code` or more, or `used` where all hold less.
 pub fn first_place(places: &[u16], used: usize, code: u16) -> usize
     requires { used ≤ length places.now }
     ensures { FirstPlace places.now used code result }
 {
-    for k in 0..used {
-        if places[k] >= code {
-            return k;
-        }
-    }
-    used
+    places[..used]
+        .iter()
+        .position(|held| *held >= code)
+        .unwrap_or(used)
 }
 
 /// Puts `code` in at place `at`, and moves the codes from there on up by one place.
@@ -38,9 +38,7 @@ pub fn put_in(places: &mut [u16], used: usize, at: usize, code: u16)
     requires room { used < length places.old }
     ensures { (k : ℕ) → slice_index places.new k ≡ put_in places.old used at code k }
 {
-    for k in (at..used).rev() {
-        places[k + 1] = places[k];
-    }
+    places.copy_within(at..used, at + 1);
     places[at] = code;
 }
 
@@ -50,7 +48,5 @@ pub fn take_out(places: &mut [u16], used: usize, at: usize)
     requires room { used < length places.old }
     ensures { (k : ℕ) → slice_index places.new k ≡ take_out places.old used at k }
 {
-    for k in at..used {
-        places[k] = places[k + 1];
-    }
+    places.copy_within(at + 1..used + 1, at);
 }

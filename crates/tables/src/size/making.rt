@@ -4,6 +4,7 @@ ghost use Rattle.tables.specs.Sizes.{told, sizing};
 
 use super::Size;
 use crate::refusals::SizeRefusal;
+use crate::table::Table;
 
 impl Size {
     /// The size of `members` and `slots`, or a refusal where one of them is not 1 to 64.
@@ -14,6 +15,17 @@ impl Size {
             return Err(SizeRefusal::OutOfRange);
         }
         Ok(Size { members, slots })
+    }
+
+    /// The size of a table.
+    pub fn of<T: Table>(table: &T) -> Size
+        ensures members { result.members ≡ (T.Table.grid table.now).members }
+        ensures slots { result.slots ≡ (T.Table.grid table.now).slots }
+    {
+        Size {
+            members: table.members(),
+            slots: table.slots(),
+        }
     }
 
     /// How many members there are.

@@ -7,7 +7,7 @@ ghost use Rattle.std.specs.Prelude.{◌≡◌, ℕ, ◌%◌, ◌^◌, ◌<◌, �
 ghost use Rattle.std.specs.Option.{option_map};
 ghost use Rattle.tables.specs.Crews.{ahead, manned};
 ghost use Rattle.tables.specs.Firsts.{first};
-ghost use Rattle.tables.specs.Grid.{shared_slots};
+ghost use Rattle.tables.specs.Grid.{slot_word, shared_slots};
 ghost use Rattle.tables.specs.Sides.{sides, crew_of};
 ghost use Rattle.tables.specs.Walk.{closed_below, fits, pass};
 ghost use Rattle.walks.specs.Rows.{rows_grid};
@@ -21,35 +21,31 @@ impl Rows {
     pub fn first_from(&self, position: u64) -> Option<Crew>
         ensures { option_map sides result ≡ first (ahead (rows_grid self.now) position) }
     {
-        let count = self.members;
+        let count = self.size.members();
         let word = position & below(count);
         let shared = self.shared_by_fronts(word);
         let slots = shared[count as usize];
         if self.is_manned(word, slots) {
             return Crew::new(word, slots);
         }
-        for i in (0..count).rev() {
-            if holds(word, i) {
-                let front = word & below(i);
-                let slots = shared[i as usize];
-                if self.may_part(i, front, slots) {
-                    return self.complete(i, front, slots);
-                }
-            }
-        }
-        None
+        let i = (0..count).rev().find(|&i| {
+            holds(word, i) && self.may_part(i, word & below(i), shared[i as usize])
+        })?;
+        self.complete(i, word & below(i), shared[i as usize])
     }
 
     // The slots shared by the numbers of `word` below each i.
     fn shared_by_fronts(&self, word: u64) -> [u64; 65]
-        ensures { (i : ℕ) → i ≤ self.now.members → slice_index result i ≡ shared_slots (rows_grid self.now) (word % 2 ^ i) }
+        ensures { (i : ℕ) → i ≤ self.now.size.members → slice_index result i ≡ shared_slots (rows_grid self.now) (word % 2 ^ i) }
     {
+        // an array of a fixed size, since no heap is used below the programs
         let mut shared = [0; 65];
-        let mut slots = below(self.slots);
+        let mut slots = below(self.size.slots());
         shared[0] = slots;
-        for i in 0..self.members {
+        // A loop, since each entry is made from the one before, and a chain collects only into memory of the heap.
+        for i in 0..self.size.members() {
             if holds(word, i) {
-                slots &= self.words[i as usize];
+                slots &= self.word(i);
             }
             shared[i as usize + 1] = slots;
         }
@@ -58,19 +54,19 @@ impl Rows {
 
     // Whether `word`, whose members share `slots`, is the member word of a crew.
     fn is_manned(&self, word: u64, slots: u64) -> bool
-        requires below { word < 2 ^ self.now.members }
+        requires below { word < 2 ^ self.now.size.members }
         requires shared { slots ≡ shared_slots (rows_grid self.now) word }
         ensures { result ≡ manned (rows_grid self.now) word }
     {
         if word == 0 || slots == 0 {
             return false;
         }
-        self.is_closed(self.members, word, slots)
+        self.is_closed(self.size.members(), word, slots)
     }
 
-    // Whether a crew with fewer slots than `slots` may have `front` as its members up to `i`.
+    // Whether a crew with fewer slots than `slots` may have `front` as its members up to `i`. The two are given apart, since `slots` is tried with the words of others while `front` stays.
     fn may_part(&self, i: u8, front: u64, slots: u64) -> bool
-        requires { i < self.now.members }
+        requires { i < self.now.size.members }
         ensures { result ≡ fits (rows_grid self.now) i front slots }
     {
         if slots == 0 {
@@ -81,32 +77,37 @@ impl Rows {
 
     // The first crew that has `front` as its members up to `i`; these share `slots`.
     fn complete(&self, i: u8, front: u64, slots: u64) -> Option<Crew>
-        requires within { i < self.now.members }
+        requires within { i < self.now.size.members }
         requires shared { slots ≡ shared_slots (rows_grid self.now) front }
-        ensures { option_map sides result ≡ crew_of (pass (rows_grid self.now) i front self.now.members).0 (pass (rows_grid self.now) i front self.now.members).1 }
+        ensures { option_map sides result ≡ crew_of (pass (rows_grid self.now) i front self.now.size.members).0 (pass (rows_grid self.now) i front self.now.size.members).1 }
     {
-        let mut members = front;
-        let mut slots = slots;
-        for k in i + 1..self.members {
-            let fewer = slots & self.words[k as usize];
-            if self.may_part(i, front, fewer) {
-                members |= only(k);
-                slots = fewer;
-            }
-        }
+        let (members, slots) = (i + 1..self.size.members()).fold(
+            (front, slots),
+            |(members, slots), k| {
+                let fewer = slots & self.word(k);
+                if self.may_part(i, front, fewer) {
+                    (members | only(k), fewer)
+                } else {
+                    (members, slots)
+                }
+            },
+        );
         Crew::new(members, slots)
     }
 
     // Whether every number below `end` that has all of `slots` is in `front`.
     fn is_closed(&self, end: u8, front: u64, slots: u64) -> bool
-        requires { end ≤ self.now.members }
+        requires { end ≤ self.now.size.members }
         ensures { result ≡ closed_below (rows_grid self.now) end front slots }
     {
-        for k in 0..end {
-            if !holds(front, k) && slots & self.words[k as usize] == slots {
-                return false;
-            }
-        }
-        true
+        (0..end).all(|k| holds(front, k) || slots & self.word(k) != slots)
+    }
+
+    // The slot word of number `k`.
+    fn word(&self, k: u8) -> u64
+        requires { k < 64 }
+        ensures { result ≡ slot_word (rows_grid self.now) k }
+    {
+        self.words[k as usize]
     }
 }

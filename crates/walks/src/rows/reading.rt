@@ -3,6 +3,8 @@ ghost use Rattle.std.specs.Prelude.{◌≡◌};
 ghost use Rattle.walks.specs.Rows.{rows_grid};
 
 use super::Rows;
+use std::array;
+use tables::size::Size;
 use tables::table::Table;
 
 impl Rows {
@@ -10,16 +12,9 @@ impl Rows {
     pub fn read<T: Table>(table: &T) -> Rows
         ensures { rows_grid result ≡ T.Table.grid table.now }
     {
-        let mut words = [0; 64];
-        for i in 0..64u8 {
-            words[i as usize] = table.slot_word(i);
-        }
-        let members = table.members();
-        let slots = table.slots();
         Rows {
-            words,
-            members,
-            slots,
+            words: array::from_fn(|i| table.slot_word(i as u8)),
+            size: Size::of(table),
         }
     }
 }

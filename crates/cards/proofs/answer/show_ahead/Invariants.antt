@@ -7,5 +7,5 @@ use Rattle.cards.proofs.answer.show_ahead.Given as goal
 
 abbrev pub invariant-loop-shown : goal.invariant-loop-shown
 invariant-loop-shown l =
-    let cs = ahead (bit_grid l.initial.listing.table) l.initial.listing.walk.position in
-    (l.shown ≤ length cs) × (l.listing.table ≡ l.initial.listing.table) × (ahead (bit_grid l.initial.listing.table) l.listing.walk.position ≡ drop l.shown cs) × (vec_items l.answer ≡ vec_items l.initial.answer ++ flat_map crew_line (take l.shown cs))
+    let cs = ahead (bit_grid l.initial.listing.table) l.initial.listing.walk in
+    (l.shown ≤ length cs) × (ahead (bit_grid l.listing.table) l.listing.walk ≡ drop l.shown cs) × (vec_items l.answer ≡ vec_items l.initial.answer ++ flat_map crew_line (take l.shown cs))

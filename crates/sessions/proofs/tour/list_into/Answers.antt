@@ -18,8 +18,8 @@ loop-place-init g c =
     (refl, refl, ap (ahead grid) c.rewind.ensures.start ∙ ahead_all grid, refl)
 
 -- what is ahead when a turn begins, in terms of the table as it was
-ahead_now : (g : given.Over) (c : After-next g) → ahead (g.T.Table.grid c.loop-place.session.table) c.loop-place.session.walk.position ≡ drop c.loop-place.place-index (crews (g.T.Table.grid c.rewind.new.self.table))
-ahead_now g c = ap (λ t. ahead (g.T.Table.grid t) c.loop-place.session.walk.position) c.loop-place.invariant.0 ∙ c.loop-place.invariant.2
+ahead_now : (g : given.Over) (c : After-next g) → ahead (g.T.Table.grid c.loop-place.session.table) c.loop-place.session.walk ≡ drop c.loop-place.place-index (crews (g.T.Table.grid c.rewind.new.self.table))
+ahead_now g c = ap (λ t. ahead (g.T.Table.grid t) c.loop-place.session.walk) c.loop-place.invariant.0 ∙ c.loop-place.invariant.2
 
 pub loop-place-preserved : goal.loop-place-preserved
 loop-place-preserved g c =
@@ -30,7 +30,7 @@ loop-place-preserved g c =
     let now = ahead_now g (goal.at.loop-place-preserved g c).After-next in (
       cc,
       cc,
-      ap (λ t. ahead (g.T.Table.grid t) c.next.new.self.walk.position) (sym inv.0) ∙ c.next.ensures.ahead ∙ ap rest now ∙ sym (drop_more k (crews grid)),
+      ap (λ t. ahead (g.T.Table.grid t) c.next.new.self.walk) (sym inv.0) ∙ c.next.ensures.ahead ∙ ap rest now ∙ sym (drop_more k (crews grid)),
       ap (λ n. map (option_map sides) (take n (set c.loop-place.places k c.next.result))) (add-one k)
           ∙ ap (map (option_map sides)) (take-suc-set c.loop-place.places k c.next.result within)
           ∙ map-append (option_map sides) (take k c.loop-place.places) (c.next.result ∷ [])
@@ -51,7 +51,7 @@ returns g c =
     ∙ inv.3 ∙ ap₂ (λ k t. in_turn k (crews t)) end grid in
     record {
       answers = answers;
-      left = ap (λ t. ahead t c.loop-place.session.walk.position) (sym grid) ∙ inv.2 ∙ ap₂ (λ k t. drop k (crews t)) end grid;
+      left = ap (λ t. ahead t c.loop-place.session.walk) (sym grid) ∙ inv.2 ∙ ap₂ (λ k t. drop k (crews t)) end grid;
       every_crew_is_reached = reaches_each _ n _ answers;
       crews_are_listed = crews_listed _ proper;
       table = inv.0 ∙ same;

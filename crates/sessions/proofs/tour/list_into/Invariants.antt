@@ -10,5 +10,5 @@ invariant-loop-place g l =
     let grid = g.T.Table.grid l.initial.session.table in
     (l.session.table ≡ l.initial.session.table)
     × (l.session.finder ≡ l.initial.session.finder)
-    × (ahead grid l.session.walk.position ≡ drop l.place-index (crews grid))
+    × (ahead grid l.session.walk ≡ drop l.place-index (crews grid))
     × (map (option_map sides) (take l.place-index l.places) ≡ in_turn l.place-index (crews grid))

@@ -1,5 +1,4 @@
-use Rattle.std.proofs.Common.{◌+◌, ◌^◌, ◌<◌, length, sym, ap, ◌∙◌, arith, rules, true-eqb, false-eqb}
-use Rattle.tables.specs.Sheet.{sheet}
+use Rattle.std.proofs.Common.{◌+◌, ◌<◌, length, sym, ap, ◌∙◌, arith, true-eqb, false-eqb}
 use Rattle.texts.specs.Cards.{applied, filled}
 use Rattle.texts.proofs.Cards.{applied_left, applied_end, applied_fault, applied_more}
 use Rattle.texts.proofs.Lines.{behind_shorter, later_lines}
@@ -11,20 +10,11 @@ loop-rest-init g c =
     let back = c.split.ensures.back in
     let shorter = behind_shorter 10 c.args.text.now in
     let same = ap length back in
-    let s = sheet (g.R.Table.grid c.args.session.now.roster) (g.R.Roster.free c.args.session.now.roster) in (
+    let s = g.R.Roster.sheet c.args.session.now.roster in (
       omega (arith, shorter, same),
       λ some. omega (arith, shorter, same),
       ap (applied s 2) (later_lines c.args.text.now) ∙ ap (applied_left s 2 (length c.args.text.now)) (sym back),
     )
-
-pub overflow_add-line : goal.overflow_add-line
-overflow_add-line g c =
-    let some : 0 < length c.loop-rest.rest.now = omega (arith, false-eqb _ 0 c.loop-rest-test.ensures) in
-    let more : c.loop-rest.line + 1 < 2 ^ 64 = omega (arith, c.loop-rest.invariant.1 some) in
-    search rules
-
-pub overflow_sub-result : goal.overflow_sub-result
-overflow_sub-result g c = c.loop-rest.invariant.0
 
 pub loop-rest-smaller : goal.loop-rest-smaller
 loop-rest-smaller g c =

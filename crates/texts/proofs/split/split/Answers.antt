@@ -1,23 +1,18 @@
-use Rattle.std.proofs.Common.{◌≤◌, length, take, drop, ap, ◌∙◌, add-one, arith}
-use native.Mathlib.Nat.{sub-zero}
-use Rattle.std.proofs.lemmas.List.{take_rest, drop_all}
-use Rattle.texts.proofs.Splits.{up_to_first, behind_first, up_to_none, behind_none}
+use Rattle.std.proofs.Common.{◌==◌, sym, ◌∙◌, rules, tests}
+use Rattle.std.proofs.lemmas.Iterator.{YieldsList-from_slice}
+use Rattle.std.proofs.lemmas.Iterator.Search.{position_from_yields_List}
+use Rattle.std.proofs.lemmas.List.{take_rest}
+use Rattle.texts.proofs.Splits.{split_some, split_none}
 use Rattle.texts.proofs.split.split.Goals as goal
 
-pub returns-then-byte-mark : goal.returns-then-byte-mark
-returns-then-byte-mark c =
-    let bs = c.args.bytes.now in
-    let i = c.loop-i.i in
-    record {
-      front = ap (λ n. take n bs) (sub-zero i) ∙ up_to_first c.args.mark bs i c.loop-i-test.true c.loop-i.invariant c.if-byte-mark.true;
-      back = take_rest bs _ ∙ ap (λ n. drop n bs) (add-one i) ∙ behind_first c.args.mark bs i c.loop-i-test.true c.loop-i.invariant c.if-byte-mark.true;
-    }
+pub returns-in-Some : goal.returns-in-Some
+returns-in-Some c =
+    let is = sym c.in-Some.is ∙ position_from_yields_List (λ b. b == c.args.mark) _ _ c.position.result c.position.ensures.ran (YieldsList-from_slice c.args.bytes.now (search rules)) (λ x b q k. search (rules, tests)) in
+    let cut = split_some c.args.mark c.in-Some.at c.args.bytes.now is in
+    record { front = cut.0; back = take_rest c.args.bytes.now _ ∙ cut.1 }
 
-pub returns : goal.returns
-returns c =
-    let bs = c.args.bytes.now in
-    let end : length bs ≤ c.loop-i.i = c.loop-i-test.false in
-    record {
-      front = up_to_none c.args.mark bs (λ k h. c.loop-i.invariant k (omega arith));
-      back = take_rest bs _ ∙ drop_all _ bs (omega arith) ∙ behind_none c.args.mark bs (λ k h. c.loop-i.invariant k (omega arith));
-    }
+pub returns-in-None : goal.returns-in-None
+returns-in-None c =
+    let is = sym c.in-None.is ∙ position_from_yields_List (λ b. b == c.args.mark) _ _ c.position.result c.position.ensures.ran (YieldsList-from_slice c.args.bytes.now (search rules)) (λ x b q k. search (rules, tests)) in
+    let cut = split_none c.args.mark c.args.bytes.now is in
+    record { front = cut.0; back = cut.1 }

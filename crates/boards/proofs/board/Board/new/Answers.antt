@@ -1,11 +1,8 @@
-use Rattle.std.proofs.Common.{refl}
-use Rattle.boards.proofs.Boards.{none_in_use}
+use Rattle.std.proofs.Common.{◌≡◌, min, arith}
+use Rattle.std.specs.List.Sorted.{IsStrictlySortedBy}
+use Rattle.boards.specs.Lines.{places}
 use Rattle.boards.proofs.board.Board.new.Goals as goal
 
-pub returns : goal.returns
-returns g c = record {
-  used = refl;
-  increasing = none_in_use g.L.Line.order c.args.lines.now;
-  kept = refl;
-  named = refl;
-}
+pub invariant_of-result : goal.invariant_of-result
+unfolding IsStrictlySortedBy
+invariant_of-result g c = record { within = omega arith; increasing = let none : min 0 (places c.args.lines.now) ≡ 0 = omega arith in rw none tt }

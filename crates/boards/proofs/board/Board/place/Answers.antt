@@ -1,15 +1,11 @@
-use Rattle.std.proofs.Common.{ap, ◌∙◌}
-use Rattle.boards.specs.Lines.{in_use, place_of}
-use Rattle.boards.proofs.Boards.{handed_on}
+use Rattle.std.proofs.Common.{◌≡◌, suc, if◌then◌else◌, Some, None, sym, ◌∙◌, rules}
+use Rattle.boards.specs.Lines.{on_board, count_before}
+use Rattle.boards.specs.Boards.{lines_of}
 use Rattle.boards.proofs.Standing.{place_counted}
 use Rattle.boards.proofs.board.Board.place.Goals as goal
 
 pub returns : goal.returns
 returns g c =
-    let board = c.args.self.now in
-    let memory = board.lines.now in
-    let found = c.place_in.ensures ∙ ap (λ ys. place_of g.L.Line.order ys c.args.line.now) (handed_on memory board.used c.len-used.result c.len-used.ensures) in
-    record {
-      found = found;
-      counted = found ∙ place_counted g.met.L.Line.lawful (in_use memory board.used) c.args.line.now c.requires;
-    }
+    let xs = lines_of c.args.self.now in
+    let counted : c.map.result ≡ (if on_board g.L.Ord.cmp xs c.args.line.now then Some (suc (count_before g.L.Ord.cmp xs c.args.line.now)) else None) = search rules in
+    record { found = counted ∙ sym (place_counted g.met.L.Ord.total g.met.L.Line.same xs c.args.line.now c.args.self.now.increasing); counted = counted }

@@ -1,23 +1,26 @@
-use Rattle.std.proofs.Common.{sym, ◌∙◌, arith, below_more}
-use Rattle.finders.proofs.Starting.{starts_tells, starts_none}
+use Rattle.std.proofs.Common.{rules, ◌&&◌, not, eqb, ltb, sym, refl, ap, ◌∙◌, tests, arith}
+use Rattle.std.proofs.lemmas.Bool.{lt-ltb}
+use Rattle.std.proofs.lemmas.Iterator.{YieldsList-from_range}
+use Rattle.std.proofs.lemmas.Iterator.Search.{all_from_yields_List}
+use Rattle.words.specs.Bits.{every}
+use Rattle.tables.specs.Grid.{member_word}
+use Rattle.finders.specs.Finder.{starts}
+use Rattle.words.proofs.Ranges.{every_all}
 use Rattle.finders.proofs.finder.starters.is_starter.Goals as goal
 
-pub returns-then-word-eq0 : goal.returns-then-word-eq0
-returns-then-word-eq0 g c = sym (starts_none _ c.args.slot (λ f. let e = sym c.member_word-word.ensures ∙ c.if-word-eq0.true in let some = f.0 in omega arith))
-
-pub loop-k-init : goal.loop-k-init
-loop-k-init g c k l e = omega arith
-
-pub returns-then-member_word-word : goal.returns-then-member_word-word
-returns-then-member_word-word g c =
-    let same = sym c.member_word.ensures ∙ c.if-member_word-word.true ∙ c.member_word-word.ensures in
-    sym (starts_none _ c.args.slot (λ f. f.1 c.loop-k.k c.loop-k-test.true same))
-
-pub loop-k-preserved : goal.loop-k-preserved
-loop-k-preserved g c = below_more _ _ c.loop-k.invariant (λ e. c.if-member_word-word.false (c.member_word.ensures ∙ e ∙ sym c.member_word-word.ensures))
-
-pub returns : goal.returns
-returns g c =
+pub returns-then-word-ne0 : goal.returns-then-word-ne0
+unfolding starts
+returns-then-word-ne0 g c =
+    let grid = g.T.Table.grid c.args.table.now in
     let word = c.member_word-word.ensures in
-    let some = c.if-word-eq0.false in
-    sym ((starts_tells _ c.args.slot).1 (omega arith, λ k l. c.loop-k.invariant k (omega arith)))
+    let some = c.if-word-ne0.true in
+    let all = all_from_yields_List (λ k. not (eqb (member_word grid k) c.member_word-word.result)) _ _ _ c.all.ensures.ran (YieldsList-from_range 0 c.args.slot c.args.slot refl (omega arith)) (λ x b q k. search (rules, tests)) in
+    all ∙ every_all _ c.args.slot ∙ sym (ap (λ b. b && every (λ k. not (eqb (member_word grid k) c.member_word-word.result)) c.args.slot) (lt-ltb 0 c.member_word-word.result (omega arith)))
+    ∙ ap (λ w. ltb 0 w && every (λ k. not (eqb (member_word grid k) w)) c.args.slot) word
+
+pub returns-else-word-ne0 : goal.returns-else-word-ne0
+unfolding starts
+returns-else-word-ne0 g c =
+    let grid = g.T.Table.grid c.args.table.now in
+    let none = c.if-word-ne0.false in
+    ap (λ w. not (eqb w 0)) none ∙ sym (ap (λ w. ltb 0 w && every (λ k. not (eqb (member_word grid k) w)) c.args.slot) (sym c.member_word-word.ensures ∙ none))

@@ -1,24 +1,21 @@
-use Rattle.std.proofs.Common.{sym, ap, ◌∙◌, arith}
-use Rattle.std.specs.Option.{option_map}
+use Rattle.std.proofs.Common.{rules, take, sym, ap, ◌∙◌, tests}
+use Rattle.std.specs.Option.{option_map, option_to_list}
+use Rattle.std.proofs.lemmas.Iterator.{YieldsList-from_slice}
+use Rattle.std.proofs.lemmas.Iterator.Adapters.{YieldsList-from_flatten, YieldsList-from_once, option_map_id}
+use Rattle.std.proofs.lemmas.Iterator.Consumers.{YieldsList-from_copied}
+use Rattle.std.proofs.lemmas.Iterator.Search.{find_from_yields_List}
 use Rattle.tables.specs.Sides.{sides}
-use Rattle.finders.proofs.FoundLists.{number_none, covered_here, covered_past, covered_nowhere}
+use Rattle.finders.specs.Found.{covers, covering}
+use Rattle.finders.proofs.FoundLists.{covering_find}
+use Rattle.finders.proofs.Places.{front_listed}
 use Rattle.finders.proofs.found.Found.covering.Goals as goal
-use Rattle.finders.proofs.found.Found.covering.Goals.{in-Some+else-is_covering, in_default}
-
-pub returns-then-is_covering : goal.returns-then-is_covering
-returns-then-is_covering c =
-    covered_here c.args.member c.args.slot _ c.loop-k.k c.loop-k.invariant (sides c.in-Some.crew) (sym c.in-Some.ensures) (sym c.is_covering.ensures ∙ c.if-is_covering.true)
-
-pub loop-k-preserved : goal.loop-k-preserved
-loop-k-preserved c =
-    elim c.match-get.branch [
-      | in-Some+else-is_covering w ↦
-          covered_past c.args.member c.args.slot _ c.loop-k.k c.loop-k.invariant (sides w.in-Some.crew) (sym w.in-Some.ensures) (sym w.is_covering.ensures ∙ w.if-is_covering.false)
-      | in_default w ↦
-          let e = c.len-k-end.ensures in
-          let none = number_none _ c.loop-k.k (sym c.get.ensures ∙ ap (option_map sides) w.in_default.is) in
-          absurd (omega arith)
-    ]
 
 pub returns : goal.returns
-returns c = let e = c.len-k-end.ensures in covered_nowhere c.args.member c.args.slot _ c.loop-k.k c.loop-k.invariant (omega arith)
+returns c =
+    let i = c.args.member in
+    let j = c.args.slot in
+    let found = find_from_yields_List (λ k. covers i j (sides k)) _ _ _ c.find.ensures.ran
+    (YieldsList-from_flatten _ _ (λ y. y) option_to_list (λ x j h. YieldsList-from_once x h.0) (YieldsList-from_copied (YieldsList-from_slice (take c.self.inside.used c.self.inside.places) cc)) c.flatten.ensures.front c.flatten.ensures.back c.flatten.ensures.done)
+    (λ x b q k. search (rules, tests)) in
+    ap (option_map sides) (sym (option_map_id _) ∙ found)
+    ∙ covering_find i j _ ∙ ap (covering i j) (front_listed c.self.inside.places c.self.inside.used c.self.invariant.filled ∙ c.self.view_is)

@@ -1,23 +1,17 @@
-use Rattle.std.proofs.Common.{sym, ap, ◌∙◌, arith}
-use Rattle.std.specs.Option.{option_map}
-use Rattle.tables.specs.Sides.{sides}
-use Rattle.finders.proofs.FoundLists.{number_none, held_here, held_past, held_nowhere}
+use Rattle.std.proofs.Common.{rules, eqb, take, ap, ◌∙◌, tests}
+use Rattle.std.specs.Option.{option_to_list}
+use Rattle.std.proofs.lemmas.Iterator.{YieldsList-from_slice}
+use Rattle.std.proofs.lemmas.Iterator.Adapters.{YieldsList-from_flatten, YieldsList-from_once}
+use Rattle.std.proofs.lemmas.Iterator.Consumers.{YieldsList-from_copied}
+use Rattle.std.proofs.lemmas.Iterator.Search.{any_from_yields_List}
+use Rattle.finders.specs.Found.{has_members}
+use Rattle.finders.proofs.FoundLists.{held_any}
+use Rattle.finders.proofs.Places.{front_listed}
 use Rattle.finders.proofs.found.Found.holds.Goals as goal
-use Rattle.finders.proofs.found.Found.holds.Goals.{in-Some+else-members, in_default}
-
-pub returns-then-members : goal.returns-then-members
-returns-then-members c =
-    held_here c.args.members _ c.loop-k.k c.loop-k.invariant (sides c.in-Some.crew) (sym c.in-Some.ensures) (sym c.members.ensures ∙ c.if-members.true)
-
-pub loop-k-preserved : goal.loop-k-preserved
-loop-k-preserved c =
-    elim c.match-get.branch [
-      | in-Some+else-members w ↦ held_past c.args.members _ c.loop-k.k c.loop-k.invariant (sides w.in-Some.crew) (sym w.in-Some.ensures) (λ e. w.if-members.false (w.members.ensures ∙ e))
-      | in_default w ↦
-          let e = c.len-k-end.ensures in
-          let none = number_none _ c.loop-k.k (sym c.get.ensures ∙ ap (option_map sides) w.in_default.is) in
-          absurd (omega arith)
-    ]
 
 pub returns : goal.returns
-returns c = let e = c.len-k-end.ensures in held_nowhere c.args.members _ c.loop-k.k c.loop-k.invariant (omega arith)
+returns c =
+    any_from_yields_List (λ k. eqb k.members c.args.members) _ _ _ c.any.ensures.ran
+    (YieldsList-from_flatten _ _ (λ y. y) option_to_list (λ x j h. YieldsList-from_once x h.0) (YieldsList-from_copied (YieldsList-from_slice (take c.self.inside.used c.self.inside.places) cc)) c.flatten.ensures.front c.flatten.ensures.back c.flatten.ensures.done)
+    (λ x b q k. search (rules, tests))
+    ∙ held_any c.args.members _ ∙ ap (has_members c.args.members) (front_listed c.self.inside.places c.self.inside.used c.self.invariant.filled ∙ c.self.view_is)

@@ -1,6 +1,6 @@
-use Rattle.std.proofs.Common.{sym}
-use Rattle.finders.proofs.Places.{found_length}
+use Rattle.std.proofs.Common.{length, sym, ap, ◌∙◌}
+use Rattle.finders.proofs.Places.{used_length}
 use Rattle.finders.proofs.found.Found.len.Goals as goal
 
 pub returns : goal.returns
-returns c = sym (found_length c.args.self.now)
+returns c = sym (used_length _ _ c.self.invariant) ∙ ap length c.self.view_is

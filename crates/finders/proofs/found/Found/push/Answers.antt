@@ -1,25 +1,31 @@
-use Rattle.std.proofs.Common.{◌+◌, ◌<◌, ◌≤◌, length, ◌∙◌, arith, length-set}
-use Rattle.finders.proofs.Places.{found_length, front_more, filled_more, apart_more}
+use Rattle.std.proofs.Common.{◌+◌, ◌≤◌, ◌++◌, ◌∷◌, [], ap, ◌∙◌, arith, length-set}
+use Rattle.tables.specs.Sides.{sides}
+use Rattle.finders.specs.Found.{has_members}
+use Rattle.finders.proofs.Places.{place_left, front_more, filled_more, apart_more}
 use Rattle.finders.proofs.found.Found.push.Goals as goal
-use Rattle.finders.proofs.found.Found.push.Goals.{Start}
-
--- there is a free place
-free : (c : Start) → c.args.self.now.used < length c.args.self.now.places
-free c = let f = c.args.self.now in let e = found_length f in let long = f.places_count in let room = c.requires.room in omega arith
 
 pub listed : goal.listed
-listed c = free (goal.at.listed c).Start
+listed c = place_left _ _ c.self.invariant _ c.self.view_is c.requires.room
 
-pub bounds-self-self : goal.bounds-self-self
-bounds-self-self c = let l = free (goal.at.bounds-self-self c).Start in let long = c.args.self.now.places_count in omega arith
+pub bounds-self-inside-self-inside : goal.bounds-self-inside-self-inside
+bounds-self-inside-self-inside c = let l = place_left _ _ c.self.invariant _ c.self.view_is c.requires.room in let long = c.self.invariant.places_count in omega arith
 
 pub invariant_of-self : goal.invariant_of-self
 invariant_of-self c =
-    let f = c.args.self.now in
-    let l = free (goal.at.invariant_of-self c).Start in
-    let long = f.places_count in
-    let fits : f.used + 1 ≤ 512 = omega arith in
-    record { places_count = length-set _ _ _ ∙ long; fits = fits; filled = filled_more f.places f.used c.args.crew l f.filled; apart = apart_more f.places f.used c.args.crew l f.apart c.requires.fresh }
+    let kept = c.self.invariant in
+    let places = c.self.inside.places in
+    let n = c.self.inside.used in
+    let l = place_left places n kept _ c.self.view_is c.requires.room in
+    let long = kept.places_count in
+    let fits : n + 1 ≤ 512 = omega arith in
+    record {
+      places_count = length-set _ _ _ ∙ long;
+      fits = fits;
+      filled = filled_more places n c.args.crew l kept.filled;
+      apart = apart_more places n c.args.crew l kept.apart (ap (has_members c.args.crew.members) c.self.view_is ∙ c.requires.fresh);
+    }
 
 pub returns : goal.returns
-returns c = let f = c.args.self.now in front_more f.places f.used c.args.crew (free (goal.at.returns c).Start)
+returns c =
+    front_more c.self.inside.places c.self.inside.used c.args.crew (place_left _ _ c.self.invariant _ c.self.view_is c.requires.room)
+    ∙ ap (λ l. l ++ sides c.args.crew ∷ []) c.self.view_is

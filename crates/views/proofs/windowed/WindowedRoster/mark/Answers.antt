@@ -1,15 +1,8 @@
-use Rattle.std.proofs.Common.{◌<◌, ◌∙◌, subst}
-use Rattle.views.proofs.Windows.{window_marking, window_after_mark}
+use Rattle.std.proofs.Common.{sym, ◌∙◌}
+use Rattle.views.proofs.Windows.{window_after_mark}
 use Rattle.views.proofs.windowed.WindowedRoster.mark.Goals as goal
 
-pub returns : goal.returns
-returns g c =
+pub returns-clause-after : goal.returns-clause-after
+returns-clause-after g c =
     let t = c.args.self.now in
-    let grid = g.R.Table.grid t.table in
-    let proper = g.met.R.Table.proper t.table in
-    let free = g.R.Roster.free t.table in
-    let hi : c.args.member < grid.members = subst (λ n. c.args.member < n) c.members.ensures c.if-member-members.false in
-    record {
-      answer = c.mark.ensures.answer ∙ window_marking grid proper t.from t.count c.start.result c.width.result c.start.ensures c.width.ensures free c.args.member c.args.slot hi c.if-slot-width.false;
-      after = window_after_mark grid proper t.from t.count c.start.result c.width.result c.start.ensures c.width.ensures free c.args.member c.args.slot hi c.if-slot-width.false _ c.mark.ensures.after;
-    }
+    window_after_mark (g.R.Roster.sheet t.table) (g.R.Table.grid t.table) (g.met.R.Roster.on_grid t.table) (g.met.R.Table.proper t.table) t.from t.count c.start.result c.args.member c.args.slot c.start.ensures (sym c.check_place.ensures ∙ c.in_ok-check_place.was) _ c.mark.ensures.after

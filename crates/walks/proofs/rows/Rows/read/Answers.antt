@@ -1,31 +1,20 @@
-use Rattle.std.proofs.Common.{◌≤◌, sym, refl, ◌∙◌, subst, subst₂, arith, length-set, get_or-set_other, get_or-set_same, below_more}
+use Rattle.std.proofs.Common.{rules, ◌≡◌, ℕ, ◌<◌, get_or, sym, refl, subst₂, tests, arith}
 use Rattle.tables.specs.Filed.{Inside}
-use Rattle.walks.proofs.Reading.{read_inside, read_grid}
+use Rattle.tables.specs.Grid.{slot_word}
+use Rattle.walks.proofs.Reading.{read_inside, read_grid, made_from}
+use Rattle.walks.proofs.rows.Rows.read.Given as given
 use Rattle.walks.proofs.rows.Rows.read.Goals as goal
+use Rattle.walks.proofs.rows.Rows.read.Goals.{After-from_fn}
 
-pub loop-i-init : goal.loop-i-init
-loop-i-init g c = (refl, λ k h. absurd (omega arith))
-
-pub loop-i-preserved : goal.loop-i-preserved
-loop-i-preserved g c =
-    let long = c.loop-i.invariant.0 in
-    let lt = c.loop-i-test.true in (
-      length-set _ _ _ ∙ long,
-      below_more _ _
-          (λ k h. get_or-set_other c.loop-i.words c.loop-i.i k c.slot_word.result 0 (omega arith) ∙ c.loop-i.invariant.1 k h)
-          (get_or-set_same c.loop-i.words c.loop-i.i c.slot_word.result 0 (omega arith) ∙ c.slot_word.ensures),
-    )
+-- each word that was read is that of its member
+read : (g : given.Over) (c : After-from_fn g) → (i : ℕ) → i < 64 → get_or c.from_fn.result i 0 ≡ slot_word (g.T.Table.grid c.args.table.now) i
+read g c i l = made_from _ _ (slot_word (g.T.Table.grid c.args.table.now)) (λ x y q k. search (rules, tests)) 64 0 _ c.from_fn.result refl c.from_fn.ensures.items.each i (omega arith) (omega arith)
 
 pub invariant_of-result : goal.invariant_of-result
 invariant_of-result g c =
-    let proper = g.met.T.Table.proper c.args.table.now in
-    let n = c.members-members.ensures in
-    let m = c.slots-slots.ensures in
-    let past = c.loop-i-test.false in
-    let inside = read_inside _ proper c.loop-i.words c.loop-i.invariant.0 (λ i h. c.loop-i.invariant.1 i (omega arith)) in record { some_member = subst (λ k. 1 ≤ k) (sym n) proper.some_member; members_fit = subst (λ k. k ≤ 64) (sym n) proper.members_fit; some_slot = subst (λ k. 1 ≤ k) (sym m) proper.some_slot; slots_fit = subst (λ k. k ≤ 64) (sym m) proper.slots_fit; inside = subst₂ (λ n m. Inside n m c.loop-i.words) (sym n) (sym m) inside }
+    let inside = read_inside _ (g.met.T.Table.proper c.args.table.now) c.from_fn.result c.from_fn.ensures.items.long (read g (goal.at.invariant_of-result g c).After-from_fn) in
+    record { inside = subst₂ (λ n m. Inside n m c.from_fn.result) (sym c.of.ensures.members) (sym c.of.ensures.slots) inside }
 
 pub returns : goal.returns
 returns g c =
-    let proper = g.met.T.Table.proper c.args.table.now in
-    let past = c.loop-i-test.false in
-    read_grid _ proper c.loop-i.words c.loop-i.invariant.0 (λ i h. c.loop-i.invariant.1 i (omega arith)) _ _ c.members-members.ensures c.slots-slots.ensures
+    read_grid _ (g.met.T.Table.proper c.args.table.now) c.from_fn.result c.from_fn.ensures.items.long (read g (goal.at.returns g c).After-from_fn) _ _ c.of.ensures.members c.of.ensures.slots

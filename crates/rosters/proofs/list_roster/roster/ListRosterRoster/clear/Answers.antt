@@ -2,6 +2,7 @@ use Rattle.std.proofs.Common.{◌≡◌, ◌+◌, ◌-◌, ◌<◌, true, false,
 use Rattle.std.proofs.lemmas.Bool.{true≢false}
 use Rattle.rosters.specs.Coded.{listed}
 use Rattle.rosters.specs.Rosters.{list_grid}
+use Rattle.tables.proofs.Placing.{placed}
 use Rattle.tables.specs.Sheet.{sheet, with_pair}
 use Rattle.rosters.proofs.Coding.{pair_marked, pair_unmarked, ascending_take, vacant_take, pairs_take, listed_take, coded_pair}
 use Rattle.rosters.proofs.Sheets.{clearing_taken, after_clear_taken, after_clear_same}
@@ -9,15 +10,13 @@ use Rattle.rosters.proofs.list_roster.roster.ListRosterRoster.clear.Goals as goa
 use Rattle.rosters.proofs.list_roster.roster.ListRosterRoster.clear.Goals.{After-first_place-at, Then-self-at}
 
 -- the pair lies within the size
-member_below : (c : After-first_place-at) → c.args.member < c.args.self.now.size.members
-member_below c = omega arith
-
-slot_below : (c : After-first_place-at) → c.args.slot < c.args.self.now.size.slots
-slot_below c = omega arith
+inside : (c : After-first_place-at) → (c.args.member < c.args.self.now.size.members) × (c.args.slot < c.args.self.now.size.slots)
+inside c = placed (list_grid c.args.self.now) c.args.member c.args.slot (sym c.check_place.ensures ∙ c.in_ok-check_place.was)
 
 -- its code stands where it belongs
 marked_now : (c : Then-self-at) → (c.first_place-at.result < c.args.self.now.used) × ((list_grid c.args.self.now).marked c.args.member c.args.slot ≡ true)
 marked_now c =
+    let within = placed (list_grid c.args.self.now) c.args.member c.args.slot (sym c.check_place.ensures ∙ c.in_ok-check_place.was) in
     let r = c.args.self.now in
     pair_marked r.size.members r.size.slots r.used c.args.member c.args.slot c.pair_code-code.result c.first_place-at.result r.codes.places (omega arith) (omega arith) (omega arith) (omega arith) c.pair_code-code.ensures c.first_place-at.ensures (omega arith) r.vacant c.if-self-at.true
 
@@ -39,11 +38,11 @@ returns-then-self-at c =
     let s = sheet (list_grid r) r.free in
     let less = listed_take r.used c.pair_code-code.result c.first_place-at.result r.codes.places c.take_out.new.places both.0 c.if-self-at.true c.take_out.ensures r.ascending in
     record {
-      answer = sym (clearing_taken s i j (member_below d) (slot_below d));
+      answer = sym (clearing_taken s i j (inside d).0 (inside d).1);
       after =
-          ap (λ g. sheet g (r.free + 1)) (coded_pair r.size.members r.size.slots r.used (r.used - 1) i j r.codes.places c.take_out.new.places false (omega arith) (member_below d) (slot_below d) (λ k. less k ∙ ap (λ x. cond (eqb k x) false (listed r.used r.codes.places k)) c.pair_code-code.ensures))
+          ap (λ g. sheet g (r.free + 1)) (coded_pair r.size.members r.size.slots r.used (r.used - 1) i j r.codes.places c.take_out.new.places false (omega arith) (inside d).0 (inside d).1 (λ k. less k ∙ ap (λ x. cond (eqb k x) false (listed r.used r.codes.places k)) c.pair_code-code.ensures))
           ∙ ap (λ b. sheet (with_pair (list_grid r) i j false) (r.free + cond b 1 0)) (sym both.1)
-          ∙ sym (after_clear_taken s i j (member_below d) (slot_below d));
+          ∙ sym (after_clear_taken s i j (inside d).0 (inside d).1);
       kept = λ no. absurd (true≢false no);
     }
 
@@ -54,9 +53,9 @@ returns-else-self-at c =
     let i = c.args.member in
     let j = c.args.slot in
     let s = sheet (list_grid r) r.free in
-    let unmarked = pair_unmarked r.size.members r.size.slots r.used i j c.pair_code-code.result c.first_place-at.result r.codes.places (omega arith) (omega arith) (member_below d) (slot_below d) c.pair_code-code.ensures c.first_place-at.ensures r.ascending c.if-self-at.false in
+    let unmarked = pair_unmarked r.size.members r.size.slots r.used i j c.pair_code-code.result c.first_place-at.result r.codes.places (omega arith) (omega arith) (inside d).0 (inside d).1 c.pair_code-code.ensures c.first_place-at.ensures r.ascending c.if-self-at.false in
     record {
-      answer = sym (clearing_taken s i j (member_below d) (slot_below d));
-      after = sym (after_clear_same s i j (member_below d) (slot_below d) unmarked);
+      answer = sym (clearing_taken s i j (inside d).0 (inside d).1);
+      after = sym (after_clear_same s i j (inside d).0 (inside d).1 unmarked);
       kept = λ no. absurd (true≢false no);
     }

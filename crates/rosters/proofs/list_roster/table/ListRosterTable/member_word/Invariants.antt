@@ -2,5 +2,5 @@ use Rattle.rosters.specs.Coded.{pair_code}
 use Rattle.rosters.proofs.Coding.{Spelled}
 use Rattle.rosters.proofs.list_roster.table.ListRosterTable.member_word.Given as goal
 
-abbrev pub invariant-loop-k : goal.invariant-loop-k
-invariant-loop-k l = Spelled (λ x. pair_code x l.slot) l.k l.self.codes.places l.members
+abbrev pub invariant-loop-code : goal.invariant-loop-code
+invariant-loop-code l = Spelled (λ x. pair_code x l.slot) l.code-index l.self.codes.places l.members
