@@ -1,24 +1,24 @@
 -- Increasing lines with one more and with one fewer: how they split where it stands, that they stay increasing, and how many there are. Assumes nothing.
-use Rattle.std.proofs.Common.{◌≡◌, suc, Bool, true, false, cond, ◌||◌, List, [], ◌∷◌, ◌++◌, length, take, drop, Ordering, Less, Equal, refl, ap, ◌∙◌, arith}
+use Rattle.std.proofs.Common.{◌≡◌, suc, Bool, true, false, cond, ◌||◌, List, [], ◌∷◌, ◌++◌, length, take, drop, Ordering, Less, refl, ap, ◌∙◌, arith}
 use Rattle.std.proofs.lemmas.Bool.{cond_both, both_ways, true≢false}
 use Rattle.std.specs.Ordering.{is_lt, is_eq, ordering_reverse}
 use Rattle.std.specs.List.{AllByRecursion}
 use Rattle.std.specs.List.Sorted.{IsStrictlySortedBy}
-use Rattle.std.specs.Cmp.{IsTotalOrder}
+use Rattle.boards.specs.Orders.{Laws}
 use Rattle.boards.specs.Lines.{Increasing, on_board, count_before, with_line, without_line}
 use Rattle.boards.proofs.Standing.{by_order, behind}
 
 -- ---- the lines before the place and behind it, and their order
 
-module _ {L : Type 0} {order : L → L → Ordering} (total : IsTotalOrder order) (same : (x y : L) → order x y ≡ Equal → x ≡ y) where
+module _ {L : Type 0} {order : L → L → Ordering} (laws : Laws order) where
   pub with_split : (xs : List L) (x : L) → Increasing order xs → with_line order xs x ≡ take (count_before order xs x) xs ++ x ∷ drop (count_before order xs x) xs
   unfolding IsStrictlySortedBy count_before with_line
   with_split [] x up = refl
   with_split (y ∷ ys) x up =
       by_order (order y x)
       (λ e. rw e (ap (λ zs. y ∷ zs) (with_split ys x up.1)))
-      (λ e. rw (e, (behind total same y x ys up (ap is_lt e)).0))
-      (λ e. rw (e, (behind total same y x ys up (ap is_lt e)).0))
+      (λ e. rw (e, (behind laws y x ys up (ap is_lt e)).0))
+      (λ e. rw (e, (behind laws y x ys up (ap is_lt e)).0))
 
   pub without_split : (xs : List L) (x : L) → Increasing order xs → on_board order xs x ≡ true
       → without_line order xs x ≡ take (count_before order xs x) xs ++ drop (suc (count_before order xs x)) xs
@@ -27,8 +27,8 @@ module _ {L : Type 0} {order : L → L → Ordering} (total : IsTotalOrder order
   without_split (y ∷ ys) x up b =
       by_order (order y x)
       (λ e. rw e (ap (λ zs. y ∷ zs) (without_split ys x up.1 (rw e at b))))
-      (λ e. rw (e, (behind total same y x ys up (ap is_lt e)).0))
-      (λ e. absurd (both_ways _ (behind total same y x ys up (ap is_lt e)).1 (rw e at b)))
+      (λ e. rw (e, (behind laws y x ys up (ap is_lt e)).0))
+      (λ e. absurd (both_ways _ (behind laws y x ys up (ap is_lt e)).1 (rw e at b)))
 
   after_with : (y x : L) (ys : List L) → AllByRecursion (λ z. order y z ≡ Less) ys → order y x ≡ Less → AllByRecursion (λ z. order y z ≡ Less) (with_line order ys x)
   unfolding with_line
@@ -38,7 +38,7 @@ module _ {L : Type 0} {order : L → L → Ordering} (total : IsTotalOrder order
 
   after_chain : (x y : L) (ys : List L) → order x y ≡ Less → AllByRecursion (λ z. order y z ≡ Less) ys → AllByRecursion (λ z. order x z ≡ Less) ys
   after_chain x y [] e h = tt
-  after_chain x y (z ∷ zs) e h = (total.trans x y z e h.0, after_chain x y zs e h.1)
+  after_chain x y (z ∷ zs) e h = (laws.chain x y z e h.0, after_chain x y zs e h.1)
 
   pub with_increasing : (xs : List L) (x : L) → Increasing order xs → on_board order xs x ≡ false → Increasing order (with_line order xs x)
   unfolding IsStrictlySortedBy on_board with_line
@@ -47,7 +47,7 @@ module _ {L : Type 0} {order : L → L → Ordering} (total : IsTotalOrder order
       by_order (order y x)
       (λ e. rw e (after_with y x ys up.0 e, with_increasing ys x up.1 (rw e at b)))
       (λ e. absurd (true≢false (rw e at b)))
-      (λ e. let first = total.antisymm x y ∙ ap ordering_reverse e in rw e ((first, after_chain x y ys first up.0), up))
+      (λ e. let first = laws.turned y x ∙ ap ordering_reverse e in rw e ((first, after_chain x y ys first up.0), up))
 
   after_without : (y x : L) (ys : List L) → AllByRecursion (λ z. order y z ≡ Less) ys → AllByRecursion (λ z. order y z ≡ Less) (without_line order ys x)
   unfolding without_line

@@ -2,10 +2,10 @@
 use Rattle.std.proofs.Common.{◌≡◌, ℕ, zero, suc, ◌+◌, ◌<◌, ◌≤◌, Bool, true, false, cond, List, [], ◌∷◌, length, get_or, Some, None, Ok, Err, Result, Ordering, Less, Equal, Greater, sym, refl, ap, ◌∙◌, suc-le-suc, le_of_suc-le-suc, arith}
 use Rattle.std.specs.Ordering.{is_lt, ordering_reverse}
 use Rattle.std.specs.List.Sorted.{IsStrictlySortedBy, IsSorted, IsBinarySearchResult, IsSearchInRange}
-use Rattle.std.specs.Cmp.{IsTotalOrder}
 use Rattle.std.proofs.lemmas.Bool.{both_ways, cond-true, cond-false}
 use Rattle.std.proofs.lemmas.List.Sorted.{searchable_from_sorted}
 use Rattle.std.proofs.lemmas.Map.Keys.{Less-from_sorted}
+use Rattle.boards.specs.Orders.{Laws, total_of_laws}
 use Rattle.boards.specs.Lines.{Increasing, on_board, count_before, place_of, further, standing}
 
 -- ---- one line and a list
@@ -15,7 +15,7 @@ by_order Less f g h = f refl
 by_order Equal f g h = g refl
 by_order Greater f g h = h refl
 
-module _ {L : Type 0} {order : L → L → Ordering} (total : IsTotalOrder order) (same : (x y : L) → order x y ≡ Equal → x ≡ y) where
+module _ {L : Type 0} {order : L → L → Ordering} (laws : Laws order) where
   -- behind a line that is not before x no line is before x, and none is x
   pub behind : (y x : L) (ys : List L) → Increasing order (y ∷ ys) → is_lt (order y x) ≡ false → (count_before order ys x ≡ 0) × (on_board order ys x ≡ false)
   unfolding IsStrictlySortedBy count_before on_board
@@ -23,8 +23,8 @@ module _ {L : Type 0} {order : L → L → Ordering} (total : IsTotalOrder order
   behind y x (z ∷ zs) up n =
       let rest = behind y x zs (up.0.1, up.1.1) n in
       by_order (order z x)
-      (λ e. absurd (both_ways _ n (ap is_lt (total.trans y z x up.0.0 e))))
-      (λ e. absurd (both_ways _ n (ap (λ w. is_lt (order y w)) (sym (same z x e)) ∙ ap is_lt up.0.0)))
+      (λ e. absurd (both_ways _ n (ap is_lt (laws.chain y z x up.0.0 e))))
+      (λ e. absurd (both_ways _ n (ap (λ w. is_lt (order y w)) (sym (laws.same z x e)) ∙ ap is_lt up.0.0)))
       (λ e. rw e rest)
 
   -- a line's place is one more than the number of lines before it
@@ -45,7 +45,7 @@ module _ {L : Type 0} {order : L → L → Ordering} (total : IsTotalOrder order
   -- ---- what a binary search tells
 
   sorted : (xs : List L) → Increasing order xs → IsSorted order xs
-  sorted xs up k d from below = ap is_lt (total.antisymm (get_or xs (k + 1) d) (get_or xs k d) ∙ ap ordering_reverse (Less-from_sorted order xs k (k + 1) d up (omega arith) below))
+  sorted xs up k d from below = ap is_lt (laws.turned (get_or xs k d) (get_or xs (k + 1) d) ∙ ap ordering_reverse (Less-from_sorted order xs k (k + 1) d up (omega arith) below))
 
   found : (xs : List L) (x : L) (i : ℕ) → Increasing order xs → i < length xs → order (get_or xs i x) x ≡ Equal → (on_board order xs x ≡ true) × (i ≡ count_before order xs x)
   unfolding IsStrictlySortedBy on_board count_before
@@ -53,7 +53,7 @@ module _ {L : Type 0} {order : L → L → Ordering} (total : IsTotalOrder order
   found (y ∷ ys) x zero up l e = let none = behind y x ys up (ap is_lt e) in rw (e, none.0) (refl, refl)
   found (y ∷ ys) x (suc i) up l e =
       let rest = found ys x i up.1 (le_of_suc-le-suc l) e in
-      let first = ap (order y) (sym (same _ x e)) ∙ Less-from_sorted order (y ∷ ys) 0 (suc i) x up (omega arith) l in
+      let first = ap (order y) (sym (laws.same _ x e)) ∙ Less-from_sorted order (y ∷ ys) 0 (suc i) x up (omega arith) l in
       rw (first, rest.0) (refl, ap suc rest.1)
 
   missed : (xs : List L) (x : L) (i : ℕ) → i ≤ length xs → ((k : ℕ) → k < i → order (get_or xs k x) x ≡ Less)
@@ -70,7 +70,7 @@ module _ {L : Type 0} {order : L → L → Ordering} (total : IsTotalOrder order
   pub searched : (xs : List L) (x : L) (r : Result ℕ ℕ) → Increasing order xs → IsSearchInRange r (length xs) → IsBinarySearchResult (λ y. order y x) xs r → r ≡ standing order xs x
   searched xs x (Ok i) up within at = let told = found xs x i up within (at x) in ap Ok told.1 ∙ sym (cond-true _ _ _ told.0)
   searched xs x (Err i) up within at =
-      let point = at (searchable_from_sorted total (λ y. y) xs x (sorted xs up)) in
+      let point = at (searchable_from_sorted (total_of_laws laws).0 (λ y. y) xs x (sorted xs up)) in
       let told = missed xs x i within (λ k l. point.0 k x (omega arith) l) (λ k l m. point.1 k x l m) in
       ap Err told.1 ∙ sym (cond-false _ _ _ told.0)
 

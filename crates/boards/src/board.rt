@@ -14,7 +14,7 @@ pub struct Board<'a, L: Line> {
     lines: &'a mut [L],
     used: usize,
     pub ghost within: { used ≤ places lines.now },
-    pub ghost increasing: { Increasing L.Ord.cmp (in_use lines.now used) } by { IsStrictlySortedBy-prop L.Ord.cmp (in_use lines.now used) },
+    pub ghost increasing: { Increasing L.Line.order (in_use lines.now used) } by { IsStrictlySortedBy-prop L.Line.order (in_use lines.now used) },
 }
 
 impl<'a, L: Line> Board<'a, L> {
@@ -53,16 +53,16 @@ impl<'a, L: Line> Board<'a, L> {
 
     // Where `line` stands among the lines, counted from 0, or where it would stand.
     fn find(&self, line: &L) -> Result<usize, usize>
-        ensures stands { result ≡ standing L.Ord.cmp (lines_of self.now) line.now }
+        ensures stands { result ≡ standing L.Line.order (lines_of self.now) line.now }
         ensures within { IsSearchInRange result (length (lines_of self.now)) }
     {
-        self.in_use().binary_search(line)
+        self.in_use().binary_search_by(|other| other.compare(line))
     }
 
     /// The place of `line`, counted from 1: one more than the number of lines before it. None where the line is not on the board.
     pub fn place(&self, line: &L) -> Option<usize>
-        ensures found { result ≡ place_of L.Ord.cmp (lines_of self.now) line.now }
-        ensures counted { result ≡ (if on_board L.Ord.cmp (lines_of self.now) line.now then Some (suc (count_before L.Ord.cmp (lines_of self.now) line.now)) else None) }
+        ensures found { result ≡ place_of L.Line.order (lines_of self.now) line.now }
+        ensures counted { result ≡ (if on_board L.Line.order (lines_of self.now) line.now then Some (suc (count_before L.Line.order (lines_of self.now) line.now)) else None) }
     {
         self.find(line).ok().map(|at| at + 1)
     }
@@ -76,8 +76,8 @@ impl<'a, L: Line> Board<'a, L> {
 
     /// Puts `line` on the board. It is refused if it is there, and then if no place is free.
     pub fn put(&mut self, line: L) -> Result<(), PutRefusal>
-        ensures answer { result ≡ put_answer L.Ord.cmp (lines_of self.old) (places (memory_of self.old)) line }
-        ensures lines { lines_of self.new ≡ after_put L.Ord.cmp (lines_of self.old) (places (memory_of self.old)) line }
+        ensures answer { result ≡ put_answer L.Line.order (lines_of self.old) (places (memory_of self.old)) line }
+        ensures lines { lines_of self.new ≡ after_put L.Line.order (lines_of self.old) (places (memory_of self.old)) line }
         ensures refused { is_ok result ≡ false → memory_of self.new ≡ memory_of self.old }
         ensures behind { drop 4096 (memory_of self.new) ≡ drop 4096 (memory_of self.old) }
         ensures size { length (memory_of self.new) ≡ length (memory_of self.old) }
@@ -96,8 +96,8 @@ impl<'a, L: Line> Board<'a, L> {
 
     /// Takes `line` from the board, and its place is free again. It is refused if the line is not there.
     pub fn take(&mut self, line: &L) -> Result<(), TakeRefusal>
-        ensures answer { result ≡ take_answer L.Ord.cmp (lines_of self.old) line.now }
-        ensures lines { lines_of self.new ≡ after_take L.Ord.cmp (lines_of self.old) line.now }
+        ensures answer { result ≡ take_answer L.Line.order (lines_of self.old) line.now }
+        ensures lines { lines_of self.new ≡ after_take L.Line.order (lines_of self.old) line.now }
         ensures refused { is_ok result ≡ false → memory_of self.new ≡ memory_of self.old }
         ensures behind { drop 4096 (memory_of self.new) ≡ drop 4096 (memory_of self.old) }
         ensures size { length (memory_of self.new) ≡ length (memory_of self.old) }

@@ -1,5 +1,5 @@
 // The line of a member's metres: more metres come first, and the lower number of two members with the same metres.
-ghost use Rattle.boards.specs.Metres.{metres_order, metres_same};
+ghost use Rattle.boards.specs.Metres.{metres_order, metres_laws};
 ghost use Rattle.std.proofs.Common.{rules};
 ghost use Rattle.std.specs.Cmp.{partial_order_from_own_ties};
 ghost use Rattle.std.specs.Cmp.Rules.{comparing};
@@ -41,5 +41,11 @@ impl PartialOrd for MetresLine {
 }
 
 impl Line for MetresLine {
-    ghost same = { metres_same };
+    ghost order = { metres_order };
+
+    ghost lawful = { metres_laws };
+
+    fn compare(&self, other: &MetresLine) -> Ordering {
+        self.cmp(other)
+    }
 }

@@ -28,6 +28,6 @@ impl Refusal for TakeRefusal {
     ghost code = { take_number };
 
     fn number(&self) -> u8 {
-        *self as u8
+        TakeRefusal::Absent as u8
     }
 }

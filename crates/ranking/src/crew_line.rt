@@ -23,6 +23,8 @@ pub fn compare_crews(a: &Crew, b: &Crew) -> Ordering
 }
 
 impl Ranking for CrewOrder {
+    const NAME: &'static str = "CrewLine";
+
     ghost order = { crew_order };
 
     ghost total = { crew_total };

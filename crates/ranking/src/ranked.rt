@@ -12,12 +12,16 @@ ghost use Rattle.tables.specs.declared.crew.Crew.{Crew};
 use crate::crew_made::CrewMade;
 use boards::line::Line;
 use std::cmp::Ordering;
+use std::fmt;
 use std::marker::PhantomData;
 use tables::crew::Crew;
 
 // Crews are ranked in more than one way, so none of these orders is the `Ord` of a crew; a line of crews has the `Ord` of its way.
 /// A way to rank crews.
 pub trait Ranking {
+    /// What a line of crews ranked this way is called where it is shown to a programmer.
+    const NAME: &'static str = "Ranked";
+
     // How one crew stands to another: `Less` says that the first comes first.
     ghost order: { Crew → Crew → Ordering };
 
@@ -32,10 +36,17 @@ pub trait Ranking {
 }
 
 /// A crew as a line in the order of `R`.
-#[derive_where(Clone, Copy, PartialEq, Eq, Debug)]
+#[derive_where(Clone, Copy, PartialEq, Eq)]
 pub struct Ranked<R> {
     crew: Crew,
     by: PhantomData<R>,
+}
+
+// By hand, since a derived one would call both kinds of lines `Ranked`.
+impl<R: Ranking> fmt::Debug for Ranked<R> {
+    fn fmt<W: fmt::Write>(&self, f: &mut fmt::Formatter<W>) -> fmt::Result {
+        f.debug_struct(R::NAME).field("crew", &self.crew).finish()
+    }
 }
 
 impl<R: Ranking> Ord for Ranked<R> {
@@ -67,9 +78,15 @@ impl<R: Ranking> PartialOrd for Ranked<R> {
 }
 
 impl<R: Ranking> Line for Ranked<R> {
-    ghost use Rattle.ranking.specs.Made.{ranked_same};
+    ghost use Rattle.ranking.specs.Made.{ranked_order, ranked_laws};
 
-    ghost same = { ranked_same R.total R.same };
+    ghost order = { ranked_order R.order };
+
+    ghost lawful = { ranked_laws R.total R.same };
+
+    fn compare(&self, other: &Ranked<R>) -> Ordering {
+        self.cmp(other)
+    }
 }
 
 impl<R: Ranking> CrewMade for Ranked<R> {

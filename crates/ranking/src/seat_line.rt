@@ -23,6 +23,8 @@ pub fn seats(crew: &Crew) -> u32
 }
 
 impl Ranking for SeatOrder {
+    const NAME: &'static str = "SeatLine";
+
     ghost order = { seat_order };
 
     ghost total = { seat_total };

@@ -7,5 +7,5 @@ use Rattle.boards.proofs.board.Board.place.Goals as goal
 pub returns : goal.returns
 returns g c =
     let xs = lines_of c.args.self.now in
-    let counted : c.map.result ≡ (if on_board g.L.Ord.cmp xs c.args.line.now then Some (suc (count_before g.L.Ord.cmp xs c.args.line.now)) else None) = search rules in
-    record { found = counted ∙ sym (place_counted g.met.L.Ord.total g.met.L.Line.same xs c.args.line.now c.args.self.now.increasing); counted = counted }
+    let counted : c.map.result ≡ (if on_board g.L.Line.order xs c.args.line.now then Some (suc (count_before g.L.Line.order xs c.args.line.now)) else None) = search rules in
+    record { found = counted ∙ sym (place_counted g.met.L.Line.lawful xs c.args.line.now c.args.self.now.increasing); counted = counted }
