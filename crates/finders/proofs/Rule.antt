@@ -6,6 +6,7 @@ use Rattle.tables.specs.Sides.{crew_of}
 use Rattle.tables.proofs.Sides.{none_some, crew_of_some}
 use Rattle.finders.specs.Finder.{Finding, starters, met, wanted, finished, fresh, due, stepped, adding_answer, after_adding, step_answer, after_step}
 use Rattle.finders.specs.Found.{has_members}
+use Rattle.finders.specs.declared.finder.Finder.{Finder}
 use Rattle.finders.specs.declared.finder.Step.TheVariants.{Worked, Done}
 use Rattle.finders.specs.declared.refusals.StepRefusal.TheVariants.{Full}
 use Rattle.finders.proofs.Starting.{starters_most}
@@ -21,6 +22,10 @@ pub record Adds (g : Grid) (st : Finding) (c : ℕ × ℕ) : Type 0 where
 pub factor_some : (s n k : ℕ) → k < s * n → 0 < s
 factor_some zero n k h = let z = zero-mul n in absurd (omega arith)
 factor_some (suc s) n k h = omega arith
+
+-- a finder never holds more crews than its list has places
+pub found_fits : (f : Finder) → length f.found ≤ 512
+found_fits f = let within = f.within_limit in let fits = f.limit_fits in omega arith
 
 module _ (g : Grid) (st : Finding) where
   -- ---- what a step takes

@@ -1,5 +1,6 @@
 -- What is asked of a list of crews. Assumes nothing.
-use Rattle.std.specs.Prelude.{ℕ, zero, suc, Bool, false, ◌&&◌, ◌||◌, List, [], ◌∷◌, Some, None, Option, ◌==◌}
+use Rattle.std.specs.Prelude.{ℕ, zero, suc, Bool, false, ◌&&◌, ◌||◌, List, [], ◌∷◌, Some, None, Option, ◌==◌, ◌≢◌}
+use Rattle.std.specs.List.{AllPairs}
 use Rattle.words.specs.Bits.{bit}
 use Rattle.tables.specs.Crews.{kept}
 use Rattle.tables.specs.Firsts.{first}
@@ -14,6 +15,10 @@ number (c ∷ cs) (suc k) = number cs k
 abbrev pub has_members : ℕ → List (ℕ × ℕ) → Bool
 has_members x [] = false
 has_members x (c ∷ cs) = c.0 == x || has_members x cs
+
+-- no two crews of the list have the same members
+abbrev pub DifferentMembers : List (ℕ × ℕ) → Type 0
+DifferentMembers l = AllPairs (λ c d. c.0 ≢ d.0) l
 
 -- whether a crew has member i and slot j
 abbrev pub covers : ℕ → ℕ → ℕ × ℕ → Bool

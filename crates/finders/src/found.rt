@@ -1,5 +1,5 @@
 // The found list: crews with different members, in the order in which they were found. It lies in one piece and takes no memory besides.
-ghost use Rattle.std.specs.Prelude.{◌≡◌, ℕ, ◌<◌, false, List, [], ◌∷◌, ◌++◌, length};
+ghost use Rattle.std.specs.Prelude.{◌≡◌, ℕ, ◌<◌, ◌≤◌, false, List, [], ◌∷◌, ◌++◌, length};
 ghost use Rattle.std.specs.Option.{option_map};
 ghost use Rattle.tables.specs.Sides.{sides};
 ghost use Rattle.finders.specs.Found.{number, has_members, covers, covering};
@@ -40,7 +40,8 @@ impl Found {
 
     /// How many crews there are.
     pub fn len(&self) -> u16
-        ensures { result ≡ length self.now }
+        ensures count { result ≡ length self.now }
+        ensures few { result ≤ 512 }
     {
         self.used
     }

@@ -1,5 +1,5 @@
 // A listing session: a table that no longer changes, the walk over its crews, and the finder of its crews.
-ghost use Rattle.std.specs.Prelude.{◌≡◌, ◌-◌, ◌^◌, length};
+ghost use Rattle.std.specs.Prelude.{◌≡◌, ◌-◌, ◌^◌, ◌≤◌, length};
 ghost use Rattle.std.specs.Option.{option_map};
 ghost use Rattle.tables.specs.Crews.{ahead, crews};
 ghost use Rattle.tables.specs.Firsts.{first, rest};
@@ -76,7 +76,8 @@ impl<T: Table> Listing<T> {
 
     /// The limit that it was opened with.
     pub fn limit(&self) -> Limit
-        ensures { result ≡ self.now.finder.limit }
+        ensures limit { result ≡ self.now.finder.limit }
+        ensures few { result ≤ 512 }
     {
         self.finder.limit()
     }
@@ -101,7 +102,8 @@ impl<T: Table> Listing<T> {
 
     /// How many crews are found.
     pub fn found_len(&self) -> u16
-        ensures { result ≡ length (finding self.now.finder).found }
+        ensures count { result ≡ length (finding self.now.finder).found }
+        ensures few { result ≤ 512 }
     {
         self.finder.found_len()
     }

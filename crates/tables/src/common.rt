@@ -14,10 +14,13 @@ pub fn common_slots<T: Table>(table: &T, members: u64) -> u64
     if members == 0 || members > below(count) {
         return 0;
     }
-    (0..count).filter(|i| holds(members, *i)).fold(
-        below(table.slots()),
-        |shared, i| shared & table.slot_word(i),
-    )
+    (0..count).fold(below(table.slots()), |shared, i| {
+        if holds(members, i) {
+            shared & table.slot_word(i)
+        } else {
+            shared
+        }
+    })
 }
 
 /// The members marked in every slot of the word: none for no slots, and none where a number of it is no slot.

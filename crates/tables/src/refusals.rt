@@ -12,8 +12,9 @@ pub enum SizeRefusal {
 impl Refusal for SizeRefusal {
     ghost code = { size_number };
 
+    // There is one reason, so the cast names it.
     fn number(&self) -> u8 {
-        *self as u8
+        SizeRefusal::OutOfRange as u8
     }
 }
 

@@ -1,5 +1,5 @@
 // A finder that starts, and what it tells of itself.
-ghost use Rattle.std.specs.Prelude.{◌≡◌, length};
+ghost use Rattle.std.specs.Prelude.{◌≡◌, ◌≤◌, length};
 ghost use Rattle.std.specs.Option.{option_map};
 ghost use Rattle.tables.specs.Sides.{sides};
 ghost use Rattle.finders.specs.Finder.{finding, beginning};
@@ -16,6 +16,8 @@ impl Finder {
         ensures state { finding result ≡ beginning }
         ensures limit { result.limit ≡ limit }
     {
+        // Asked for what it says besides: that a limit is at most 512.
+        let _crews = limit.crews();
         Finder {
             found: Found::new(),
             worked: 0,
@@ -25,7 +27,8 @@ impl Finder {
 
     /// The most crews that may be found.
     pub fn limit(&self) -> Limit
-        ensures { result ≡ self.now.limit }
+        ensures limit { result ≡ self.now.limit }
+        ensures few { result ≤ 512 }
     {
         self.limit
     }
@@ -39,7 +42,8 @@ impl Finder {
 
     /// How many crews are found.
     pub fn found_len(&self) -> u16
-        ensures { result ≡ length (finding self.now).found }
+        ensures count { result ≡ length (finding self.now).found }
+        ensures few { result ≤ 512 }
     {
         self.found.len()
     }

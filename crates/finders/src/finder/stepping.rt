@@ -23,13 +23,11 @@ impl Finder {
         let Some(members) = self.wanted(table) else {
             return Ok(Step::Done);
         };
-        // Asked before it is needed: that a limit is at most 512, which bounds the count of steps, is what `crews` says of its answer.
-        let full = self.found.len() >= self.limit.crews();
         let Some(crew) = self.fresh(table, members) else {
             self.worked += 1;
             return Ok(Step::Worked);
         };
-        if full {
+        if self.found.len() >= self.limit.crews() {
             return Err(StepRefusal::Full);
         }
         self.found.push(crew);

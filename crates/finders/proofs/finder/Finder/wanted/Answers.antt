@@ -15,7 +15,7 @@ returns-then-pair-starters g c =
     let slots = c.from-slots.ensures ∙ c.slots.ensures in
     let past = c.if-self-slots.false in
     let over = c.if-pair-starters.true in
-    let pairs = ap₂ ◌*◌ (c.from-starters.ensures ∙ c.count_starters.ensures) (c.from.ensures ∙ c.len.ensures) in
+    let pairs = ap₂ ◌*◌ (c.from-starters.ensures ∙ c.count_starters.ensures) (c.from.ensures ∙ c.len.ensures.count) in
     sym (none_due _ (finding c.args.self.now) (omega arith))
 
 pub returns : goal.returns
@@ -24,7 +24,7 @@ returns g c =
     let st = finding c.args.self.now in
     let slots = c.from-slots.ensures ∙ c.slots.ensures in
     let count = c.from-starters.ensures ∙ c.count_starters.ensures in
-    let pairs = ap₂ ◌*◌ count (c.from.ensures ∙ c.len.ensures) in
+    let pairs = ap₂ ◌*◌ count (c.from.ensures ∙ c.len.ensures.count) in
     let past = c.if-self-slots.false in
     let within = c.if-pair-starters.false in
     ap Some

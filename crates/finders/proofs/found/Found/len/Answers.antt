@@ -3,4 +3,4 @@ use Rattle.finders.proofs.Places.{used_length}
 use Rattle.finders.proofs.found.Found.len.Goals as goal
 
 pub returns : goal.returns
-returns c = sym (used_length _ _ c.self.invariant) ∙ ap length c.self.view_is
+returns c = record { count = sym (used_length _ _ c.self.invariant) ∙ ap length c.self.view_is; few = c.self.invariant.fits }
