@@ -1,6 +1,8 @@
 -- The forms of a line: `size`, `free` or `off` with two numbers, blank, or none. Assumes nothing.
-use Rattle.std.specs.Prelude.{◌≡◌, ℕ, ◌+◌, ◌-◌, ◌*◌, ◌<◌, Bool, cond, ◌&&◌, List, [], ◌∷◌, ◌++◌, Some, None, decimal, Option, ◌==◌, nat_le}
+use Rattle.std.specs.Prelude.{◌≡◌, ℕ, ◌+◌, ◌-◌, ◌*◌, ◌<◌, Bool, cond, ◌&&◌, List, [], ◌∷◌, ◌++◌, Some, None, Ok, Err, decimal, Option, Result, ◌==◌, nat_le}
 use Rattle.texts.specs.Splits.{up_to, behind}
+use Rattle.texts.specs.declared.refusals.Cause.{Cause}
+use Rattle.texts.specs.declared.refusals.Cause.TheVariants.{Form}
 use Rattle.texts.specs.declared.forms.TextLine.{TextLine}
 use Rattle.texts.specs.declared.forms.TextLine.TheVariants.{Size, Free, Off, Blank}
 
@@ -12,11 +14,11 @@ pub data Said (A : Type 0) : Type 0 where
   blank_line : Said A
   no_form : Said A
 
--- what a line that was read says
-abbrev pub said : Option TextLine → Said ℕ
-said (Some (Size n m)) = size_line n m
-said (Some (Free n m)) = free_line n m
-said (Some (Off n m)) = off_line n m
+-- what a line that was taken apart says
+abbrev pub said : Option TextLine → Said (List ℕ)
+said (Some (Size a b)) = size_line a.now b.now
+said (Some (Free a b)) = free_line a.now b.now
+said (Some (Off a b)) = off_line a.now b.now
 said (Some Blank) = blank_line
 said None = no_form
 
@@ -61,6 +63,12 @@ field_number [] = None
 field_number (u ∷ []) = cond (digit u) (Some (u - 48)) None
 field_number (t ∷ u ∷ []) = cond (digit t && nat_le 49 t && digit u) (Some ((t - 48) * 10 + (u - 48))) None
 field_number (a ∷ b ∷ c ∷ cs) = None
+
+-- two numbers, where there are both
+abbrev pub both_numbers : Option ℕ → Option ℕ → Result (ℕ × ℕ) Cause
+both_numbers None second = Err Form
+both_numbers (Some n) None = Err Form
+both_numbers (Some n) (Some m) = Ok (n, m)
 
 -- a line of two fields, where both write a number
 abbrev pub with_numbers : (ℕ → ℕ → Said ℕ) → Option ℕ → Option ℕ → Said ℕ

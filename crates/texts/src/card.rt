@@ -1,10 +1,10 @@
 // A card: its first line tells the size of a table, and the later ones mark and clear pairs of it.
 ghost use Rattle.std.specs.Prelude.{◌≡◌};
 ghost use Rattle.texts.specs.Cards.{told, size_told, heading, putting, after_put, filled};
-ghost use Rattle.texts.specs.Forms.{form, FormLaws};
+ghost use Rattle.texts.specs.Forms.{form, field_number, both_numbers, FormLaws};
 ghost use Rattle.texts.specs.Lines.{LineLaws};
 
-use crate::forms::{TextLine, read};
+use crate::forms::{TextLine, number, read};
 use crate::refusals::{Cause, TextFault};
 use crate::split::split;
 use sessions::marking::Marking;
@@ -32,7 +32,15 @@ fn read_size(line: &[u8]) -> Result<Size, Cause>
     let Some(TextLine::Size(members, slots)) = read(line) else {
         return Err(Cause::Form);
     };
+    let (members, slots) = numbers(members, slots)?;
     Ok(Size::new(members, slots)?)
+}
+
+// The numbers that two fields write.
+fn numbers(first: &[u8], second: &[u8]) -> Result<(u8, u8), Cause>
+    ensures { result ≡ both_numbers (field_number first.now) (field_number second.now) }
+{
+    number(first).zip(number(second)).ok_or(Cause::Form)
 }
 
 /// Passes over the first line of `text` and puts the later ones on `session`, up to the first fault.
@@ -64,8 +72,14 @@ fn put<R: Roster>(line: &[u8], session: &mut Marking<R>) -> Result<(), Cause>
     ensures after { R.Roster.sheet session.new.roster ≡ after_put (R.Roster.sheet session.old.roster) (form line.now) }
 {
     match read(line) {
-        Some(TextLine::Free(member, slot)) => Ok(session.mark(member, slot)?),
-        Some(TextLine::Off(member, slot)) => Ok(session.clear(member, slot)?),
+        Some(TextLine::Free(member, slot)) => {
+            let (member, slot) = numbers(member, slot)?;
+            Ok(session.mark(member, slot)?)
+        }
+        Some(TextLine::Off(member, slot)) => {
+            let (member, slot) = numbers(member, slot)?;
+            Ok(session.clear(member, slot)?)
+        }
         Some(TextLine::Blank) => Ok(()),
         Some(TextLine::Size(_, _)) | None => Err(Cause::Form),
     }

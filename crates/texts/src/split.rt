@@ -9,6 +9,6 @@ pub fn split(bytes: &[u8], mark: u8) -> (&[u8], &[u8])
 {
     match bytes.iter().position(|&byte| byte == mark) {
         Some(at) => (&bytes[..at], &bytes[at + 1..]),
-        None => (bytes, &[]),
+        None => (bytes, &bytes[bytes.len()..]),
     }
 }
