@@ -1,12 +1,26 @@
 -- Crews that are shown one after another, and the lines that were printed for them. Assumes nothing.
-use Rattle.std.proofs.Common.{◌≡◌, ℕ, zero, suc, ◌+◌, ◌<◌, ◌≤◌, leb, List, [], ◌∷◌, ◌++◌, length, take, drop, Some, None, sym, ap, ◌∙◌, add-one, arith}
+use Rattle.std.proofs.Common.{◌≡◌, ℕ, zero, suc, ◌+◌, ◌<◌, ◌≤◌, Bool, true, false, cond, leb, List, [], ◌∷◌, ◌++◌, length, take, drop, Ok, Err, Some, None, sym, refl, ap, ◌∙◌, add-one, arith}
 use Rattle.std.specs.List.{flat_map}
-use Rattle.std.proofs.lemmas.List.{take_all, flat_map_more}
+use Rattle.std.proofs.lemmas.List.{length-append, take_at, take_all, flat_map_more}
 use Rattle.std.proofs.lemmas.Bool.{le-leb, lt-leb, cond-true, cond-false}
 use Rattle.tables.specs.Firsts.{first}
-use Rattle.prints.specs.Prints.{crew_line}
+use Rattle.prints.specs.Prints.{crew_line, printing, after_print}
 use Rattle.cards.specs.Shown.{ending, crew_lines}
 use Rattle.prints.specs.declared.ending.Tail.TheVariants.{End, More}
+use Rattle.prints.specs.declared.refusals.BufferRefusal.TheVariants.{TooShort}
+
+-- the front of a buffer that a print tells the length of is the line
+pub printed : (line buffer after : List ℕ) (n : ℕ) → Ok n ≡ printing line buffer → after ≡ after_print line buffer → (n ≤ length after) × (take n after ≡ line)
+printed line buffer after n tells leaves = by_test (leb (length line) (length buffer)) tells leaves
+  where
+    by_test : (b : Bool) → Ok n ≡ cond b (Ok (length line)) (Err TooShort) → after ≡ cond b (line ++ drop (length line) buffer) buffer → (n ≤ length after) × (take n after ≡ line)
+    by_test true told left =
+        let whole : n ≡ length line = cc in
+        let long = ap length left ∙ length-append line (drop (length line) buffer) in (
+          omega arith,
+          (λ i. take (whole i) (left i)) ∙ take_at line (drop (length line) buffer) (length line) refl,
+        )
+    by_test false told left = let z : ◌≡◌ {A = ℕ} 0 1 = cc in absurd (omega arith)
 
 module _ {A : Type 0} where
   pub none_left : (k : ℕ) (cs : List A) → None ≡ first (drop k cs) → length cs ≤ k

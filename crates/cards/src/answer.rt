@@ -7,7 +7,7 @@ ghost use Rattle.cards.specs.Shown.{shown, card_sheet, sheet_told, crews_text, c
 
 use finders::limit::Limit;
 use prints::ending::Tail;
-use prints::line;
+use prints::print::{fault_line, print, tail};
 use rosters::bit_roster::BitRoster;
 use sessions::listing::Listing;
 use sessions::marking::Marking;
@@ -22,7 +22,7 @@ pub fn answer(heap: Global, text: &[u8]) -> Result<Vec<u8>, AllocError>
     let mut answer = Vec::new(heap);
     match fill_roster(text) {
         Ok(session) => show_crews(session, &mut answer)?,
-        Err(fault) => answer.extend_from_slice(line::fault(&fault).as_str().as_bytes())?,
+        Err(fault) => show_fault(&fault, &mut answer)?,
     }
     Ok(answer)
 }
@@ -37,6 +37,17 @@ fn fill_roster(text: &[u8]) -> Result<Marking<BitRoster>, TextFault>
     Ok(session)
 }
 
+// Adds the line of a fault.
+fn show_fault(fault: &TextFault, answer: &mut Vec<u8>) -> Result<(), AllocError>
+    ensures { OnOk result (answer.new.items ≡ answer.old.items ++ fault_text fault.now) }
+{
+    let mut line = [0; 34];
+    let Ok(count) = fault_line(fault, &mut line) else {
+        unreachable!();
+    };
+    answer.extend_from_slice(&line[..count])
+}
+
 // Adds the lines of the crews of a session, and how they end.
 fn show_crews(session: Marking<BitRoster>, answer: &mut Vec<u8>) -> Result<(), AllocError>
     ensures { OnOk result (answer.new.items ≡ answer.old.items ++ crews_text (crews (bit_grid session.roster))) }
@@ -46,7 +57,11 @@ fn show_crews(session: Marking<BitRoster>, answer: &mut Vec<u8>) -> Result<(), A
     };
     let mut listing = session.close(limit);
     let ending = show_ahead(&mut listing, answer)?;
-    answer.extend_from_slice(line::tail(ending).as_str().as_bytes())
+    let mut line = [0; 25];
+    let Ok(count) = tail(ending, &mut line) else {
+        unreachable!();
+    };
+    answer.extend_from_slice(&line[..count])
 }
 
 // Adds the lines of the crews ahead, at most 512, and tells how they end.
@@ -58,7 +73,11 @@ fn show_ahead(listing: &mut Listing<BitRoster>, answer: &mut Vec<u8>) -> Result<
         let Some(crew) = listing.next() else {
             return Ok(Tail::End(shown));
         };
-        answer.extend_from_slice(line::crew(&crew).as_str().as_bytes())?;
+        let mut line = [0; 366];
+        let Ok(count) = print(&crew, &mut line) else {
+            unreachable!();
+        };
+        answer.extend_from_slice(&line[..count])?;
     }
     match listing.next() {
         Some(_) => Ok(Tail::More),

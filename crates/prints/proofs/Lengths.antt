@@ -1,5 +1,5 @@
 -- How long the printed lines are at most. Assumes nothing.
-use Rattle.std.proofs.Common.{◌≡◌, ℕ, zero, suc, ◌+◌, ◌-◌, ◌*◌, ◌<◌, ◌≤◌, List, [], ◌∷◌, length, decimal, sym, ap, ◌∙◌, subst, ⊎_elim, add-one, arith, length-append}
+use Rattle.std.proofs.Common.{◌≡◌, ℕ, zero, suc, ◌+◌, ◌-◌, ◌*◌, ◌<◌, ◌≤◌, true, List, [], ◌∷◌, length, decimal, sym, ap, ◌∙◌, subst, ⊎_elim, add-one, arith, length-append}
 use Rattle.std.proofs.lemmas.Fmt.{length-decimal-le}
 use Rattle.std.proofs.lemmas.Bool.{cases_Bool, cases_lt}
 use Rattle.tables.specs.declared.refusals.SizeRefusal.TheVariants.{OutOfRange}
@@ -45,9 +45,19 @@ unfolding commas
 without_last [] h = omega arith
 without_last (n ∷ ns) h = omega arith
 
+-- the numbers below n, and all of a word
+length_front : (w n : ℕ) → n ≤ 64 → length (commas (numbers w n)) ≤ 181
+length_front w n h = without_last (numbers w n) (omega (arith, with_commas w n h))
+
 pub length_set_text : (w : ℕ) → length (set_text w) ≤ 181
 unfolding set_text
-length_set_text w = without_last (numbers w 64) (with_commas w 64 (omega arith))
+length_set_text w = length_front w 64 (omega arith)
+
+-- there is room for one more number and what goes before it
+pub number_room : (w i : ℕ) → i < 64 → bit w i ≡ true → length (commas (numbers w i)) + length (comma_after (numbers w i)) + length (decimal i) ≤ 181
+number_room w i small held =
+    let more : length (commas (numbers w (i + 1))) ≡ length (commas (numbers w i)) + length (comma_after (numbers w i)) + length (decimal i) = ap length (set_text_more w i held) ∙ simp length-append in
+    omega (arith, more, length_front w (i + 1) (omega arith))
 
 cause_small : (e : Cause) → cause_number e ≤ 7
 cause_small Form = omega arith

@@ -1,5 +1,6 @@
 // The lines that are printed: of a crew, of how a list of crews ends, of a fault.
-ghost use Rattle.std.specs.Prelude.{◌≡◌};
+ghost use Rattle.std.specs.Prelude.{◌≡◌, ◌+◌, ◌≤◌, ◌++◌, length};
+ghost use Rattle.arrayvec.specs.ArrayString.{array_string_len};
 ghost use Rattle.tables.specs.Sides.{sides};
 ghost use Rattle.prints.specs.Prints.{set_text, crew_line, tail_line, fault_text, PrintLaws};
 
@@ -18,9 +19,9 @@ pub fn crew(crew: &Crew) -> ArrayString<366>
     ensures laws { PrintLaws }
 {
     let mut line = ArrayString::new();
-    line.push_str(listed(crew.members()).as_str());
+    push_numbers(&mut line, crew.members());
     line.push_str(" / ");
-    line.push_str(listed(crew.slots()).as_str());
+    push_numbers(&mut line, crew.slots());
     line.push('\n');
     line
 }
@@ -55,17 +56,21 @@ pub fn fault(fault: &TextFault) -> ArrayString<34>
     line
 }
 
-// The numbers that `word` holds, with commas between them.
-fn listed(word: u64) -> ArrayString<181>
-    ensures { result.bytes ≡ set_text word }
+// Adds the numbers that `word` holds, with commas between them.
+fn push_numbers(line: &mut ArrayString<366>, word: u64)
+    requires { array_string_len line.old + 181 ≤ 366 }
+    ensures text { line.new.bytes ≡ line.old.bytes ++ set_text word }
+    ensures short { length (set_text word) ≤ 181 }
 {
-    let mut text = ArrayString::new();
+    let start = line.len();
     let mut digits = Buffer::new();
-    for i in (0..64u8).filter(|&i| holds(word, i)) {
-        if !text.is_empty() {
-            text.push(',');
+    // The numbers go into the line itself and each is tested in the loop: a text of their own and a filter made a short line a quarter slower.
+    for i in 0..64u8 {
+        if holds(word, i) {
+            if line.len() > start {
+                line.push(',');
+            }
+            line.push_str(digits.format(i));
         }
-        text.push_str(digits.format(i));
     }
-    text
 }

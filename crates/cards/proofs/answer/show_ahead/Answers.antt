@@ -1,4 +1,4 @@
-use Rattle.std.proofs.Common.{◌≡◌, ◌++◌, take, drop, vec_items, sym, ap, ◌∙◌, arith}
+use Rattle.std.proofs.Common.{◌≡◌, ◌++◌, take, drop, replicate, vec_items, sym, ap, ◌∙◌, arith}
 use Rattle.std.specs.List.{flat_map}
 use Rattle.tables.specs.Crews.{ahead}
 use Rattle.rosters.specs.Rosters.{bit_grid}
@@ -6,7 +6,7 @@ use Rattle.tables.specs.Firsts.{first, rest}
 use Rattle.tables.specs.Sides.{sides}
 use Rattle.sessions.proofs.Tours.{drop_more}
 use Rattle.prints.specs.Prints.{crew_line}
-use Rattle.cards.proofs.Shown.{some_left, lines_more, ended, going_on}
+use Rattle.cards.proofs.Shown.{printed, some_left, lines_more, ended, going_on}
 use Rattle.cards.proofs.answer.show_ahead.Goals as goal
 
 pub returns-in_default : goal.returns-in_default
@@ -21,13 +21,14 @@ loop-shown-preserved c =
     let l = c.loop-shown in
     let crew = c.in-Some.crew in
     let cs = ahead (bit_grid c.args.listing.now.table) c.args.listing.now.walk in
-    let is = c.in-Some.ensures.answer ∙ ap first l.invariant.1 in (
+    let is = c.in-Some.ensures.answer ∙ ap first l.invariant.1 in
+    let line = printed (crew_line (sides crew)) (replicate 366 0) _ c.in-Ok.count c.in-Ok.ensures.answer c.in-Ok.ensures.after in (
       omega (arith, some_left l.shown cs (sides crew) is),
       ap (λ t. ahead (bit_grid t) c.next.new.self.walk) c.next.ensures.table
           ∙ c.next.ensures.ahead
           ∙ ap rest l.invariant.1
           ∙ sym (drop_more l.shown cs),
-      c.in_ok-extend_from_slice.ensures.items ∙ (λ i. l.invariant.2 i ++ (c.as_bytes.ensures.value ∙ c.as_str.ensures.value ∙ c.crew.ensures.text) i) ∙ lines_more (vec_items c.args.answer.now) l.shown cs (sides crew) is,
+      c.in_ok-extend_from_slice.ensures.items ∙ (λ i. l.invariant.2 i ++ line.1 i) ∙ lines_more (vec_items c.args.answer.now) l.shown cs (sides crew) is,
     )
 
 pub returns-in-Some-next : goal.returns-in-Some-next
