@@ -43,21 +43,21 @@ fn size_of(members: u8, slots: u8) -> anyhow::Result<Size> {
 impl Counts {
     // A bit roster alone.
     fn plain(&mut self, heap: Global, small: Size) -> Result<(), AllocError> {
-        let mut model = Model::new(heap, small, 13 * 17)?;
+        let mut model = Model::new(heap, View::whole(13, 17), 13 * 17)?;
         self.play(&mut BitRoster::new(small), &mut model, 2000, 1);
         Ok(())
     }
 
     // A list roster alone, with few places.
     fn limited(&mut self, heap: Global, small: Size) -> Result<(), AllocError> {
-        let mut model = Model::new(heap, small, 40)?;
+        let mut model = Model::new(heap, View::whole(13, 17), 40)?;
         self.play(&mut ListRoster::new(small, 40), &mut model, 2000, 1);
         Ok(())
     }
 
     // Turned over windowed over a list roster that has marks outside the window.
     fn turned_window(&mut self, heap: Global, wide: Size) -> Result<(), AllocError> {
-        let mut model = Model::new(heap, wide, 70)?;
+        let mut model = Model::new(heap, View::whole(20, 30), 70)?;
         let mut roster = ListRoster::new(wide, 70);
         self.play(&mut roster, &mut model, 100, 2);
         let mut pile = Turned::new(Windowed::new(roster, 7, 11));
@@ -69,14 +69,14 @@ impl Counts {
             turned: true,
         };
         self.play(&mut pile, &mut model, 2000, 3);
-        model.view = View::whole(wide);
+        model.view = View::whole(20, 30);
         self.compare(&pile.into_inner().into_inner(), &model);
         Ok(())
     }
 
     // Windowed over turned over a bit roster: the window shows the last 15 of the 20 members.
     fn window_of_turned(&mut self, heap: Global, wide: Size) -> Result<(), AllocError> {
-        let mut model = Model::new(heap, wide, 20 * 30)?;
+        let mut model = Model::new(heap, View::whole(20, 30), 20 * 30)?;
         let mut roster = BitRoster::new(wide);
         self.play(&mut roster, &mut model, 100, 4);
         let mut pile = Windowed::new(Turned::new(roster), 5, 200);
@@ -88,14 +88,14 @@ impl Counts {
             turned: true,
         };
         self.play(&mut pile, &mut model, 2000, 5);
-        model.view = View::whole(wide);
+        model.view = View::whole(20, 30);
         self.compare(&pile.into_inner().into_inner(), &model);
         Ok(())
     }
 
     // Windows that are asked for past the last slot or with no slot show one slot, over a list roster that was asked for more than 256 places.
     fn last_slot(&mut self, heap: Global, full: Size) -> Result<(), AllocError> {
-        let mut model = Model::new(heap, full, 256)?;
+        let mut model = Model::new(heap, View::whole(64, 64), 256)?;
         let mut roster = ListRoster::new(full, 300);
         self.play(&mut roster, &mut model, 1000, 6);
         let mut pile = Windowed::new(Windowed::new(roster, 200, 9), 3, 0);
@@ -107,14 +107,14 @@ impl Counts {
             turned: false,
         };
         self.play(&mut pile, &mut model, 500, 7);
-        model.view = View::whole(full);
+        model.view = View::whole(64, 64);
         self.compare(&pile.into_inner().into_inner(), &model);
         Ok(())
     }
 
     // Turned twice, over a window of all slots, is the roster itself.
     fn turned_twice(&mut self, heap: Global, full: Size) -> Result<(), AllocError> {
-        let mut model = Model::new(heap, full, 64 * 64)?;
+        let mut model = Model::new(heap, View::whole(64, 64), 64 * 64)?;
         let mut pile = Turned::new(Turned::new(Windowed::new(BitRoster::new(full), 0, 64)));
         self.play(&mut pile, &mut model, 1000, 8);
         Ok(())

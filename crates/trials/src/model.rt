@@ -2,7 +2,6 @@
 use crate::plain::word_of;
 use std::alloc::{AllocError, Global};
 use tables::refusals::RosterRefusal;
-use tables::size::Size;
 
 // A member and a slot are two numbers here as in the calls that are compared.
 /// Which part of the roster at the bottom the topmost layer shows, and whether members and slots are exchanged there.
@@ -16,11 +15,12 @@ pub struct View {
 }
 
 impl View {
+    // The numbers of members and slots are written out where a view is made: what is compared may not be asked of the code that is tried.
     /// All of a roster.
-    pub fn whole(size: Size) -> View {
+    pub fn whole(members: u8, slots: u8) -> View {
         View {
-            members: size.members(),
-            slots: size.slots(),
+            members,
+            slots,
             first_member: 0,
             first_slot: 0,
             turned: false,
@@ -55,12 +55,12 @@ pub struct Model {
 }
 
 impl Model {
-    /// A model with nothing marked, seen whole.
-    pub fn new(heap: Global, size: Size, free: u16) -> Result<Model, AllocError> {
+    /// A model with nothing marked.
+    pub fn new(heap: Global, view: View, free: u16) -> Result<Model, AllocError> {
         Ok(Model {
             marks: vec![in heap; false; 4096]?,
             free,
-            view: View::whole(size),
+            view,
         })
     }
 

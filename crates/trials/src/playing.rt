@@ -18,16 +18,18 @@ pub struct Counts {
 }
 
 impl Counts {
-    // Counts a call and its answer, and a mismatch where the model answers otherwise.
+    // Counts a call and its answer, and a mismatch where the model answers otherwise or its refusal has another number.
     fn count(&mut self, answer: Result<(), RosterRefusal>, expected: Result<(), RosterRefusal>) {
         self.calls = self.calls.wrapping_add(1);
-        match answer.map_err(|refusal| refusal.number()) {
+        let told = answer.map_err(|refusal| refusal.number());
+        match told {
             Err(1) => self.no_member = self.no_member.wrapping_add(1),
             Err(2) => self.no_slot = self.no_slot.wrapping_add(1),
             Err(7) => self.no_place = self.no_place.wrapping_add(1),
             _ => {}
         }
-        self.mismatches.expect(answer == expected);
+        self.mismatches
+            .expect(told == expected.map_err(plain_number));
     }
 
     /// Plays `calls` marks and clears, two marks for each clear or so, and compares every answer, every word and the free places.
@@ -58,6 +60,15 @@ impl Counts {
             self.mismatches
                 .expect(table.member_word(i) == model.member_word(i));
         }
+    }
+}
+
+// The number of a refusal, written out: the tried code's own numbers are compared with it.
+fn plain_number(refusal: RosterRefusal) -> u8 {
+    match refusal {
+        RosterRefusal::NoMember => 1,
+        RosterRefusal::NoSlot => 2,
+        RosterRefusal::NoPlace => 7,
     }
 }
 
